@@ -1,0 +1,6 @@
+pub mod Filled
+pub mod HexText
+pub mod NumberedNames
+pub mod ObjectNames
+pub mod Pieces
+pub mod Views

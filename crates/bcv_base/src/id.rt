@@ -1,0 +1,60 @@
+ghost use Rattle.std.specs.Prelude.{◌≡◌, MatchOption, IfSome, Some, length};
+ghost use Rattle.bcv_base.specs.Ids.{id_eq, IsId};
+ghost use Rattle.bcv_base.specs.Names.{hex_of};
+ghost use Rattle.bcv_base.specs.declared.id.Id16.{Id16};
+
+use hex::FromHex;
+
+/// A name of 16 bytes: of a block, a publication or a client.
+#[derive(Clone, Copy, Debug, PartialEq, Eq, PartialOrd, Ord, Hash)]
+pub struct Id16(pub [u8; 16]);
+
+impl Id16 {
+    /// Whether two ids are the same.
+    pub fn same_as(&self, other: &Id16) -> bool
+        ensures { result ≡ id_eq self.now other.now }
+    {
+        self.0 == other.0
+    }
+
+    /// The id in text: 32 hex digits in lower case.
+    pub fn hex(&self) -> [u8; 32]
+        ensures { result ≡ hex_of self.now.0 }
+    {
+        hex_text(&self.0)
+    }
+
+    /// The id that a text of 32 hex digits in lower case names, or `None` where it names none.
+    pub fn read_hex(text: &[u8]) -> Option<Id16>
+        ensures { MatchOption result ((i : Id16) → IsId i → text.now ≡ hex_of i.0 → ⊥) (λ i. IsId i × (text.now ≡ hex_of i.0)) }
+    {
+        // Upper case is read too, and told apart by the text of what was read.
+        let id = decoded(text)?;
+        if text == id.hex().as_slice() {
+            Some(id)
+        } else {
+            None
+        }
+    }
+}
+
+// Sixteen bytes as hex digits in lower case.
+fn hex_text(bytes: &[u8]) -> [u8; 32]
+    requires { length bytes.now ≡ 16 }
+    ensures { result ≡ hex_of bytes.now }
+{
+    let mut text = [0; 32];
+    hex::encode_to_slice(bytes, &mut text).unwrap();
+    text
+}
+
+// The id of 32 hex digits in either case.
+fn decoded(text: &[u8]) -> Option<Id16>
+    ensures reads { (i : Id16) → IsId i → text.now ≡ hex_of i.0 → result ≡ Some i }
+    ensures id { IfSome result IsId }
+{
+    match <[u8; 16]>::from_hex(text) {
+        Ok(bytes) => Some(Id16(bytes)),
+        Err(_) => None,
+    }
+}

@@ -1,0 +1,5 @@
+pub mod CallerLemmas
+mod Entries
+mod Found
+mod Places
+mod Steps

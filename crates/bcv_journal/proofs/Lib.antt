@@ -1,0 +1,4 @@
+mod Bytes
+mod Reader
+mod Append
+mod Loading

@@ -1,0 +1,7 @@
+pub mod Answers
+pub mod Layout
+pub mod Settled
+pub mod Reading
+pub mod Loaded
+pub mod Unique
+pub mod Parts

@@ -1,0 +1,9 @@
+pub mod Ends
+pub mod Joined
+pub mod Laws
+pub mod Lists
+pub mod Loop
+pub mod Readers
+pub mod Rows
+pub mod Searched
+pub mod Whole

@@ -1,0 +1,11 @@
+use Rattle.std.proofs.Common.{◌≡◌, ◌-◌, None}
+use Rattle.std.specs.Option.{option_map}
+use Rattle.bcv_base.specs.declared.id.Id16.{Id16}
+use Rattle.bcv_base.specs.ManifestGrammar.{items_at, writer_at}
+use Rattle.bcv_base.specs.ManifestRules.{writer_id}
+use Rattle.bcv_manifest.proofs.Loop.{with_front}
+use Rattle.bcv_manifest.proofs.items.writers_of.Given as goal
+
+abbrev pub invariant-loop : goal.invariant-loop
+invariant-loop l =
+    with_front l.writers.items (items_at writer_id (writer_at l.most) (l.count - l.counter) (option_map (λ (b : Id16). b.0) l.before) l.rest) ≡ items_at writer_id (writer_at l.most) l.count None l.bytes

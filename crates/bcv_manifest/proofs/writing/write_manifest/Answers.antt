@@ -1,0 +1,16 @@
+use Rattle.std.proofs.Common.{◌≡◌, ℕ, length, Result, Ok, Err, ap, ◌∙◌}
+use Rattle.std.specs.Prelude.{IfOk}
+use Rattle.std.specs.Global.{Vec}
+use Rattle.std.specs.declared.alloc.AllocError.{AllocError}
+use Rattle.bcv_base.specs.declared.manifest.Manifest.{Manifest}
+use Rattle.bcv_base.specs.ManifestRules.{MeetsRules, manifest_length}
+use Rattle.bcv_base.specs.ManifestText.{manifest_text}
+use Rattle.bcv_manifest.proofs.Ends.{length_text}
+use Rattle.bcv_manifest.proofs.writing.write_manifest.Goals as goal
+
+is_long : (m : Manifest) (r : Result (Vec ℕ) AllocError) → MeetsRules m → IfOk r (λ v. v.items ≡ manifest_text m) → IfOk r (λ v. length v.items ≡ manifest_length m)
+is_long m (Ok v) rules text = ap length text ∙ length_text m rules
+is_long m (Err e) rules text = tt
+
+pub returns-clause-len : goal.returns-clause-len
+returns-clause-len c = is_long c.args.manifest.now c.spelled.result c.requires.rules c.spelled.ensures

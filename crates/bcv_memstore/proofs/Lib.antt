@@ -1,0 +1,4 @@
+pub mod Asking
+pub mod Called
+pub mod Listing
+pub mod Placing

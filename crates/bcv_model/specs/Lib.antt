@@ -1,0 +1,12 @@
+pub mod Commits
+pub mod Machine
+pub mod MachineGet
+pub mod MachineMiddle
+pub mod MachinePut
+pub mod MachineReading
+pub mod MachineStart
+pub mod MachineState
+pub mod ReplyText
+pub mod Script
+pub mod Sizes
+pub mod Words

@@ -1,0 +1,6 @@
+mod Drafts
+mod Finding
+mod Origins
+mod Places
+mod Ranges
+mod Sets

@@ -1,0 +1,4 @@
+pub mod Draft
+pub mod Found
+pub mod Held
+pub mod Placed

@@ -1,0 +1,197 @@
+-- What the lines of the grammar keep to: the sizes of a world line, and those of an event's line.
+use Rattle.std.proofs.Common.{◌≡◌, ℕ, ◌-◌, ◌^◌, ◌≤◌, Bool, true, false, ◌&&◌, List, [], ◌∷◌, length, length-append, replicate, Some, None, refl, subst, arith}
+use Rattle.std.specs.Prelude.{Option, nat_le, codes, if◌then◌else◌}
+use Rattle.std.specs.Str.{bytes_eq}
+use Rattle.std.proofs.lemmas.Bool.{eqb-true}
+use Rattle.std.proofs.lemmas.Grind.{common_steps}
+use Rattle.std.proofs.lemmas.List.{length-replicate}
+use Rattle.bcv_base.specs.Image.{Page}
+use Rattle.bcv_base.specs.declared.outcome.Outcome.TheVariants as outcome
+use Rattle.bcv_model.specs.declared.ask.Ask.{Ask}
+use Rattle.bcv_model.specs.declared.ask.Ask.TheVariants as ask
+use Rattle.bcv_model.specs.declared.event.Act.TheVariants as act
+use Rattle.bcv_model.specs.declared.event.Event.{Event}
+use Rattle.bcv_model.specs.declared.event.Event.TheVariants as event
+use Rattle.bcv_model.specs.declared.spec.WorldSpec.{WorldSpec}
+use Rattle.bcv_model.specs.Sizes.{is_block_size, is_page_size}
+use Rattle.bcv_model.specs.Words.{◌>>=◌, words_of, number_in, name_of, is_number, value_of, unhexed, padded, page_from, page_of_word, pages_of_words}
+use Rattle.bcv_model.specs.Script.{given, block_size_of, page_size_of_word, slots_of, world_of_words, world_of, create_of, new_of, begin_of, read_of, step_of, ask_of, event_of_words, event_of}
+use Rattle.bcv_world.specs.FirstPath.{is_world}
+use Rattle.bcv_world.specs.Stands.{Each, IsSpec, Keeps, KeepsAsk}
+
+-- ---- one reading after another
+
+bind_some : {A B : Type 0} (o : Option A) (f : A → Option B) (y : B) → (o >>= f) ≡ Some y → (x : A) × (o ≡ Some x) × (f x ≡ Some y)
+bind_some None f y e = cc
+bind_some (Some x) f y e = (x, refl, e)
+
+some_is : {A : Type 0} (x y : A) → Some x ≡ Some y → x ≡ y
+some_is x y e = cc
+
+given_some : {A : Type 0} (t : Bool) (x y : A) → given t x ≡ Some y → (t ≡ true) × (x ≡ y)
+given_some true x y e = (refl, some_is x y e)
+given_some false x y e = cc
+
+in_range : (t : Bool) (low v high n : ℕ) → (if t && nat_le low v && nat_le v high then Some v else None) ≡ Some n → (low ≤ n) × (n ≤ high)
+in_range t low v high n e = grind (arith, common_steps)
+
+number_in_range : (low high : ℕ) (w : List ℕ) (n : ℕ) → number_in low high w ≡ Some n → (low ≤ n) × (n ≤ high)
+number_in_range low high w n e = in_range (is_number w) low (value_of w) high n e
+
+-- ---- the world line
+
+block_bound : (w : List ℕ) (b : ℕ) → block_size_of w ≡ Some b → b ≤ 16777216
+block_bound w b e =
+    let n = bind_some (number_in 512 16777216 w) (λ (n : ℕ). given (is_block_size n) n) b e in
+    let g = given_some (is_block_size n.0) n.0 b n.2 in
+    let r = number_in_range 512 16777216 w n.0 n.1 in
+    omega (arith, g.1, r.1)
+
+page_test : (t : Bool) (n block : ℕ) → (t && nat_le n block) ≡ true → n ≤ block
+page_test t n block e = grind (arith, common_steps)
+
+page_bound : (block : ℕ) (w : List ℕ) (p : ℕ) → page_size_of_word block w ≡ Some p → (512 ≤ p) × (p ≤ block)
+page_bound block w p e =
+    let n = bind_some (number_in 512 65536 w) (λ (n : ℕ). given (is_page_size n && nat_le n block) n) p e in
+    let g = given_some (is_page_size n.0 && nat_le n.0 block) n.0 p n.2 in
+    let r = number_in_range 512 65536 w n.0 n.1 in
+    let b = page_test (is_page_size n.0) n.0 block g.0 in
+    (omega (arith, g.1, r.0), omega (arith, g.1, b))
+
+abbrev after_retention : ℕ → ℕ → ℕ → List ℕ → ℕ → Option WorldSpec
+after_retention c b p slots r = slots_of b slots >>= λ s. Some (record { clients = c; block = b; page = p; retention = r; slots = s })
+
+abbrev after_page : ℕ → ℕ → List ℕ → List ℕ → ℕ → Option WorldSpec
+after_page c b retention slots p = number_in 0 (2 ^ 64 - 1) retention >>= after_retention c b p slots
+
+abbrev after_block : ℕ → List ℕ → List ℕ → List ℕ → ℕ → Option WorldSpec
+after_block c page retention slots b = page_size_of_word b page >>= after_page c b retention slots
+
+abbrev after_clients : List ℕ → List ℕ → List ℕ → List ℕ → ℕ → Option WorldSpec
+after_clients block page retention slots c = block_size_of block >>= after_block c page retention slots
+
+abbrev after_word : List ℕ → List ℕ → List ℕ → List ℕ → List ℕ → List ℕ → Option WorldSpec
+after_word clients block page retention slots word = number_in 1 16 clients >>= after_clients block page retention slots
+
+abbrev spec_with : ℕ → ℕ → ℕ → ℕ → ℕ → WorldSpec
+spec_with c b p r s = record { clients = c; block = b; page = p; retention = r; slots = s }
+
+is_spec : (c b p r s : ℕ) (spec : WorldSpec) → spec_with c b p r s ≡ spec → b ≤ 16777216 → 512 ≤ p → p ≤ b → IsSpec spec
+is_spec c b p r s spec e x y z =
+    let here : IsSpec (spec_with c b p r s) = record { page = omega arith; page_fits = z; block = omega arith } in
+    subst IsSpec e here
+
+words_spec : (words : List (List ℕ)) (spec : WorldSpec) → world_of_words words ≡ Some spec → IsSpec spec
+words_spec [] spec e = cc
+words_spec (a ∷ []) spec e = cc
+words_spec (a ∷ b ∷ []) spec e = cc
+words_spec (a ∷ b ∷ c ∷ []) spec e = cc
+words_spec (a ∷ b ∷ c ∷ d ∷ []) spec e = cc
+words_spec (a ∷ b ∷ c ∷ d ∷ f ∷ []) spec e = cc
+words_spec (a ∷ b ∷ c ∷ d ∷ f ∷ g ∷ h ∷ more) spec e = cc
+words_spec (word ∷ clients ∷ block ∷ page ∷ retention ∷ slots ∷ []) spec e =
+    let w = bind_some (given (bytes_eq word (codes "world")) word) (after_word clients block page retention slots) spec e in
+    let c = bind_some (number_in 1 16 clients) (after_clients block page retention slots) spec w.2 in
+    let b = bind_some (block_size_of block) (after_block c.0 page retention slots) spec c.2 in
+    let p = bind_some (page_size_of_word b.0 page) (after_page c.0 b.0 retention slots) spec b.2 in
+    let r = bind_some (number_in 0 (2 ^ 64 - 1) retention) (after_retention c.0 b.0 p.0 slots) spec p.2 in
+    let s = bind_some (slots_of b.0 slots) (λ (s : ℕ). Some (spec_with c.0 b.0 p.0 r.0 s)) spec r.2 in
+    let size = page_bound b.0 page p.0 p.1 in
+    is_spec c.0 b.0 p.0 r.0 s.0 spec (some_is (spec_with c.0 b.0 p.0 r.0 s.0) spec s.2) (block_bound block b.0 b.1) size.0 size.1
+
+pub world_spec : (line : List ℕ) (spec : WorldSpec) → world_of line ≡ Some spec → IsSpec spec
+unfolding world_of
+world_spec line spec e = words_spec (words_of line) spec e
+
+-- ---- the lines of events
+
+-- what was read keeps to the world, where something was
+abbrev IsKept : WorldSpec → Option Ask → Type 0
+IsKept spec None = Unit {0}
+IsKept spec (Some q) = KeepsAsk spec q
+
+bind_kept : {A : Type 0} (spec : WorldSpec) (o : Option A) (f : A → Option Ask) → ((x : A) → o ≡ Some x → IsKept spec (f x)) → IsKept spec (o >>= f)
+bind_kept spec None f h = tt
+bind_kept spec (Some x) f h = h x refl
+
+if_kept : (spec : WorldSpec) (t : Bool) (a b : Option Ask) → IsKept spec a → IsKept spec b → IsKept spec (if t then a else b)
+if_kept spec true a b p q = p
+if_kept spec false a b p q = q
+
+padded_length : (size : ℕ) (bytes : List ℕ) → length bytes ≤ size → length (padded size bytes) ≡ size
+padded_length size bytes h = omega (arith, length-append bytes (replicate (size - length bytes) 0), length-replicate {A = ℕ} (size - length bytes) 0)
+
+from_length : (size : ℕ) (bytes page : List ℕ) → page_from size bytes ≡ Some page → length page ≡ size
+from_length size bytes page e =
+    let g = given_some (nat_le 1 (length bytes) && nat_le (length bytes) size) (padded size bytes) page e in
+    let small = page_test (nat_le 1 (length bytes)) (length bytes) size g.0 in
+    subst (λ (l : List ℕ). length l ≡ size) g.1 (padded_length size bytes small)
+
+word_length : (size : ℕ) (t : Bool) (o : Option (List ℕ)) (page : List ℕ) → (o ≡ Some page → length page ≡ size) → (if t then Some (replicate size 0) else o) ≡ Some page → length page ≡ size
+word_length size true o page h e = subst (λ (l : List ℕ). length l ≡ size) (some_is (replicate size 0) page e) (length-replicate {A = ℕ} size 0)
+word_length size false o page h e = h e
+
+page_length : (size : ℕ) (w page : List ℕ) → page_of_word size w ≡ Some page → length page ≡ size
+page_length size w page e =
+    word_length size (bytes_eq w (45 ∷ [])) (unhexed w >>= λ bs. page_from size bs) page
+    (λ f. let b = bind_some (unhexed w) (λ (bs : List ℕ). page_from size bs) page f in from_length size b.0 page b.2) e
+
+pages_lengths : (size : ℕ) (ws : List (List ℕ)) (ps : List Page) → pages_of_words size ws ≡ Some ps → Each (λ (p : Page). length p ≡ size) ps
+pages_lengths size [] ps e = subst (Each (λ (p : Page). length p ≡ size)) (some_is {A = List Page} [] ps e) tt
+pages_lengths size (w ∷ ws) ps e =
+    let p = bind_some {A = Page} {B = List Page} (page_of_word size w) (λ (p : Page). pages_of_words size ws >>= λ qs. Some (p ∷ qs)) ps e in
+    let q = bind_some {A = List Page} {B = List Page} (pages_of_words size ws) (λ (qs : List Page). Some (p.0 ∷ qs)) ps p.2 in
+    let here : Each (λ (p : Page). length p ≡ size) (p.0 ∷ q.0) = (page_length size w p.0 p.1, pages_lengths size ws q.0 q.1) in
+    subst (Each (λ (p : Page). length p ≡ size)) (some_is {A = List Page} (p.0 ∷ q.0) ps q.2) here
+
+create_kept : (spec : WorldSpec) (words : List (List ℕ)) → IsKept spec (create_of spec words)
+create_kept spec [] = (refl, refl)
+create_kept spec (w ∷ ws) = tt
+
+begin_kept : (spec : WorldSpec) (words : List (List ℕ)) → IsKept spec (begin_of words)
+begin_kept spec [] = tt
+begin_kept spec (db ∷ []) = bind_kept spec (name_of db) (λ (d : List ℕ). Some (ask.Begin d)) (λ d e. tt)
+begin_kept spec (a ∷ b ∷ ws) = tt
+
+step_kept : (spec : WorldSpec) (words : List (List ℕ)) → IsKept spec (step_of words)
+step_kept spec [] = tt
+step_kept spec (t ∷ []) = bind_kept spec (number_in 1 16 t) (λ (task : ℕ). Some (ask.Step task)) (λ d e. tt)
+step_kept spec (a ∷ b ∷ ws) = tt
+
+read_kept : (spec : WorldSpec) (words : List (List ℕ)) → IsKept spec (read_of words)
+read_kept spec [] = tt
+read_kept spec (x ∷ []) = tt
+read_kept spec (x ∷ p ∷ []) =
+    bind_kept spec (number_in 1 64 x) (λ (txn : ℕ). number_in 1 (2 ^ 32 - 1) p >>= λ page. Some (ask.Read txn page))
+    (λ txn e. bind_kept spec (number_in 1 (2 ^ 32 - 1) p) (λ (page : ℕ). Some (ask.Read txn page)) (λ page f. tt))
+read_kept spec (a ∷ b ∷ c ∷ ws) = tt
+
+new_kept : (spec : WorldSpec) (words : List (List ℕ)) → IsKept spec (new_of spec words)
+new_kept spec [] = tt
+new_kept spec (db ∷ texts) =
+    bind_kept spec (name_of db) (λ (d : List ℕ). pages_of_words spec.page texts >>= λ ps. Some (ask.NewDb d spec.page ps))
+    (λ d e. bind_kept spec (pages_of_words spec.page texts) (λ (ps : List Page). Some (ask.NewDb d spec.page ps)) (λ ps f. (refl, pages_lengths spec.page texts ps f)))
+
+ask_kept : (spec : WorldSpec) (verb : List ℕ) (words : List (List ℕ)) → IsKept spec (ask_of spec verb words)
+ask_kept spec verb words =
+    if_kept spec (bytes_eq verb (codes "begin")) (begin_of words) _ (begin_kept spec words)
+    (if_kept spec (bytes_eq verb (codes "read")) (read_of words) _ (read_kept spec words)
+    (if_kept spec (bytes_eq verb (codes "create")) (create_of spec words) _ (create_kept spec words)
+    (if_kept spec (bytes_eq verb (codes "new")) (new_of spec words) _ (new_kept spec words)
+    (if_kept spec (bytes_eq verb (codes "step")) (step_of words) None (step_kept spec words) tt))))
+
+words_kept : (spec : WorldSpec) (words : List (List ℕ)) (e : Event) → is_world spec ≡ true → event_of_words spec words ≡ Some e → Keeps spec e
+words_kept spec [] e one x = cc
+words_kept spec (a ∷ []) e one x = cc
+words_kept spec (client ∷ verb ∷ words) e one x =
+    let c = bind_some (number_in 1 spec.clients client) (λ (c : ℕ). ask_of spec verb words >>= λ q. Some (event.Of c (act.Ask q outcome.Ok))) e x in
+    let q = bind_some (ask_of spec verb words) (λ (q : Ask). Some (event.Of c.0 (act.Ask q outcome.Ok))) e c.2 in
+    let range = number_in_range 1 spec.clients client c.0 c.1 in
+    let clients = eqb-true spec.clients 1 one in
+    let kept : KeepsAsk spec q.0 = subst (IsKept spec) q.1 (ask_kept spec verb words) in
+    let here : Keeps spec (event.Of c.0 (act.Ask q.0 outcome.Ok)) = (omega (arith, range.0, range.1, clients), refl, kept) in
+    subst (Keeps spec) (some_is (event.Of c.0 (act.Ask q.0 outcome.Ok)) e q.2) here
+
+pub line_keeps : (spec : WorldSpec) (line : List ℕ) (e : Event) → is_world spec ≡ true → event_of spec line ≡ Some e → Keeps spec e
+unfolding event_of
+line_keeps spec line e one x = words_kept spec (words_of line) e one x

@@ -1,0 +1,9 @@
+pub mod Accepted
+pub mod Causes
+pub mod Grammar
+pub mod Newlines
+pub mod Played
+pub mod Reader
+pub mod Refused
+pub mod Stepping
+pub mod Writer

@@ -1,0 +1,250 @@
+-- How far a replay has come, and how it ends.
+use Rattle.std.proofs.Common.{◌≡◌, ℕ, ◌+◌, ◌^◌, ◌<◌, ◌≤◌, ◌⊎◌, inl, inr, List, [], ◌∷◌, ◌++◌, length, length-append, take_all, Some, None, refl, sym, ap, ◌∙◌, subst, append_assoc, append-nil, arith}
+use Rattle.std.specs.Prelude.{Option}
+use Rattle.std.specs.Io.KnownBytes.{Appends, Consumes, IsAtEnd}
+use Rattle.std.proofs.KnownBytes.{Consumes-nil, Consumes-trans, Appends-nil, Appends-trans}
+use Rattle.std.proofs.lemmas.Grind.{flat_map-append}
+use Rattle.std.proofs.lemmas.List.{length-map}
+use Rattle.bcv_model.specs.declared.event.Event.{Event}
+use Rattle.bcv_model.specs.Script.{world_of, event_of}
+use Rattle.bcv_world.specs.declared.world.World.{World}
+use Rattle.bcv_top.specs.declared.status.Status.{Status}
+use Rattle.bcv_top.specs.declared.status.Status.TheVariants as status
+use Rattle.bcv_top.specs.Lines.{Splits, IsOpen, IsNext, IsLast, IsLine, AreAll, AreLines, text_of, most_of_script}
+use Rattle.bcv_top.specs.Reading.{FitsFront, FitsWhole, PassesLimit}
+use Rattle.bcv_top.specs.Replay.{Leads, StopsAt, Runs, IsNoWorld}
+use Rattle.bcv_top.specs.Headline.{Replays, WritesFront}
+use Rattle.bcv_top.proofs.Writer.{take_over}
+use Rattle.bcv_top.specs.Led.{Led, LeadsOn, IsCut, IsReady, Ends, SaysLast, end_of}
+
+-- ---- lists
+
+no_end : (a : List (List ℕ)) (x : List ℕ) → a ++ x ∷ [] ≡ [] → ⊥
+no_end [] x e = cc
+no_end (b ∷ a) x e = cc
+
+text_more : (lines : List (List ℕ)) (line : List ℕ) → text_of (lines ++ line ∷ []) ≡ text_of lines ++ (line ++ 10 ∷ [])
+text_more lines line =
+    flat_map-append (λ (l : List ℕ). l ++ 10 ∷ []) lines (line ∷ []) ∙ ap (λ (l : List ℕ). text_of lines ++ l) (append-nil (line ++ 10 ∷ []))
+
+text_length : (lines : List (List ℕ)) (line : List ℕ) → length (text_of (lines ++ line ∷ [])) ≡ length (text_of lines) + length line + 1
+text_length lines line = omega (arith, ap length (text_more lines line), length-append (text_of lines) (line ++ 10 ∷ []), length-append line (10 ∷ []))
+
+-- each line takes a byte at least
+lines_few : (lines : List (List ℕ)) → length lines ≤ length (text_of lines)
+lines_few [] = omega arith
+lines_few (l ∷ lines) = omega (arith, lines_few lines, length-append (l ++ 10 ∷ []) (text_of lines), length-append l (10 ∷ []))
+
+lines_more : (lines : List (List ℕ)) (line : List ℕ) → AreLines lines → IsLine line → AreLines (lines ++ line ∷ [])
+lines_more [] line a i = (i, tt)
+lines_more (l ∷ lines) line a i = (a.0, lines_more lines line a.1 i)
+
+-- ---- the lines of what was taken
+
+splits_more : (taken t chunk : List ℕ) (lines : List (List ℕ)) → Splits taken lines chunk → Splits (taken ++ t) lines (chunk ++ t)
+splits_more taken t chunk lines s = record {
+  joined = ap (λ (l : List ℕ). l ++ t) s.joined ∙ append_assoc (text_of lines) chunk t;
+  are_lines = s.are_lines;
+  within = s.within;
+}
+
+splits_line : (taken rest line more : List ℕ) (lines : List (List ℕ)) → Splits taken lines rest → rest ≡ line ++ 10 ∷ more → FitsWhole (length (text_of lines)) line → Splits taken (lines ++ line ∷ []) more
+splits_line taken rest line more lines s e f = record {
+  joined = s.joined ∙ ap (λ (l : List ℕ). text_of lines ++ l) (e ∙ sym (append_assoc line (10 ∷ []) more)) ∙ sym (append_assoc (text_of lines) (line ++ 10 ∷ []) more) ∙ ap (λ (l : List ℕ). l ++ more) (sym (text_more lines line));
+  are_lines = lines_more lines line s.are_lines f.is_line;
+  within = omega (arith, text_length lines line, f.fits);
+}
+
+-- ---- what lines led to
+
+led_leads : (w : Option World) (lines : List (List ℕ)) (written : List ℕ) → Led w lines written → Leads lines written
+led_leads None lines written l = subst (λ (x : List (List ℕ)). Leads x written) (sym l.0) l.1
+led_leads (Some w) lines written l =
+    let runs : Runs w.spec l.3.h l.3.a l.1 written = record { events = l.3.events; stand = l.3.mirrors.stood; accepts = l.3.mirrors.accepts; text = l.3.text } in
+    subst (λ (x : List (List ℕ)). Leads x written) (sym l.2) (w.spec, l.3.h, l.3.a, l.3.fixes, runs)
+
+led_ready : (w : Option World) (lines : List (List ℕ)) (written : List ℕ) → Led w lines written → length lines < 2 ^ 62 → IsReady w
+led_ready None lines written l h = tt
+led_ready (Some w) lines written l h =
+    (l.3.good, l.3.fixes.built, omega (arith, ap length l.2, ap length l.3.events, length-map l.1 (event_of w.spec), length-map l.3.h.events (λ (e : Event). Some e), l.3.mirrors.applied))
+
+-- ---- the end by a line
+
+front : (taken rest more line written w : List ℕ) (lines : List (List ℕ)) (old new : Option World)
+    → Splits taken lines rest → (Splits taken (lines ++ line ∷ []) more) ⊎ AreAll taken (lines ++ line ∷ []) → Led old lines written → IsCut old new line w → WritesFront taken (written ++ w)
+front taken rest more line written w lines old new s all l (inl e) =
+    (lines, rest, written, length written, inl s, led_leads old lines written l, ap (λ (x : List ℕ). written ++ x) e ∙ append-nil written ∙ sym (take_all (length written) written (omega arith)))
+front taken rest more line written w lines old new s all l (inr c) =
+    (lines ++ line ∷ [], more, written ++ c.0, length written + c.1, all, led_leads new (lines ++ line ∷ []) (written ++ c.0) (c.3 lines written l), ap (λ (x : List ℕ). written ++ x) c.2 ∙ sym (take_over written c.0 c.1))
+
+stops : (taken rest more line written w : List ℕ) (lines : List (List ℕ)) (ended : Type 0) (old new : Option World) (n : ℕ) (s : Status)
+    → Splits taken lines rest → IsNext ended lines rest line → (Splits taken (lines ++ line ∷ []) more) ⊎ AreAll taken (lines ++ line ∷ []) → Led old lines written → n ≡ length lines + 1
+    → Ends s n old new line w → Replays s taken ended (written ++ w)
+stops taken rest more line written w lines ended old new n (status.BadScript at place) s i all l c e =
+    (e.1, (lines, rest, line, e.0 ∙ c, s, i, subst (λ (x : List ℕ). StopsAt lines x line) (sym (ap (λ (x : List ℕ). written ++ x) e.2 ∙ append-nil written)) (e.3 lines written l)))
+stops taken rest more line written w lines ended old new n status.WriteFault s i all l c e = front taken rest more line written w lines old new s all l e
+stops taken rest more line written w lines ended old new n status.NoMemory s i all l c e = front taken rest more line written w lines old new s all l e
+stops taken rest more line written w lines ended old new n status.Done s i all l c e = absurd e
+stops taken rest more line written w lines ended old new n status.BadWords s i all l c e = absurd e
+stops taken rest more line written w lines ended old new n status.ReadFault s i all l c e = absurd e
+stops taken rest more line written w lines ended old new n status.TooLong s i all l c e = absurd e
+
+-- all lines of the input led to what was written
+done : (taken written : List ℕ) (all : List (List ℕ)) (ended : Type 0) (w : Option World) → ended → AreAll taken all → Led w all written → (all ≡ [] → ⊥) → Replays status.Done taken ended written
+done taken written all ended None e a l none = absurd (none l.0)
+done taken written all ended (Some w) e a l none =
+    (e, (l.0, l.1, subst (AreAll taken) l.2 a, subst (λ (x : List (List ℕ)). Leads x written) l.2 (led_leads (Some w) all written l)))
+
+-- an input that ended after whole lines
+no_world : IsNoWorld (world_of [])
+unfolding world_of
+no_world = tt
+
+ended_at : (w : Option World) (taken written rest : List ℕ) (lines : List (List ℕ)) (ended : Type 0) → ended → Splits taken lines rest → rest ≡ [] → Led w lines written → Replays (end_of w) taken ended written
+ended_at None taken written rest lines ended end s e l =
+    let split : Splits taken [] [] = subst (λ (x : List (List ℕ)). Splits taken x []) l.0 (subst (Splits taken lines) e s) in
+    let empty : IsLine [] = record { whole = refl; short = omega arith } in
+    let whole : IsOpen [] [] = record { is_line = empty; within = omega arith } in
+    (refl, ([], [], [], refl, split, (empty, inr (end, tt, whole, refl)), (l.1, no_world)))
+ended_at (Some w) taken written rest lines ended end s e l =
+    let split : Splits taken (l.0 ∷ l.1) [] = subst (λ (x : List (List ℕ)). Splits taken x []) l.2 (subst (Splits taken lines) e s) in
+    (end, (l.0, l.1, inl split, subst (λ (x : List (List ℕ)). Leads x written) l.2 (led_leads (Some w) lines written l)))
+
+-- the same line, by the slice that shows it
+pub line_is : (used : ℕ) (bytes line shown rest : List ℕ) → shown ≡ line → (bytes ≡ line ++ 10 ∷ rest) × FitsWhole used line → (bytes ≡ shown ++ 10 ∷ rest) × FitsWhole used shown
+line_is used bytes line shown rest e h = subst (λ (l : List ℕ). (bytes ≡ l ++ 10 ∷ rest) × FitsWhole used l) (sym e) h
+
+pub last_is : (used : ℕ) (bytes line shown : List ℕ) (ended : Type 0) → shown ≡ line → ended × (bytes ≡ line) × (0 < length line) × FitsFront used line → ended × (bytes ≡ shown) × (0 < length shown) × FitsFront used shown
+last_is used bytes line shown ended e h = subst (λ (l : List ℕ). ended × (bytes ≡ l) × (0 < length l) × FitsFront used l) (sym e) h
+
+-- ---- how far a replay has come: what was taken and written, and the lines that were applied
+
+pub record Played (ib im ob om : Option (List ℕ)) (w : Option World) (number used : ℕ) (chunk : List ℕ) : Type 0 where
+  pub taken : List ℕ
+  pub written : List ℕ
+  pub lines : List (List ℕ)
+  pub consumes : Consumes ib im taken
+  pub appends : Appends ob om written
+  pub splits : Splits taken lines chunk
+  pub led : Led w lines written
+  pub number_is : number ≡ length lines
+  pub used_is : length (text_of lines) ≡ used
+
+abbrev pub Replayed : (ib ie ob oe : Option (List ℕ)) → Status → Type 0
+Replayed ib ie ob oe s = (taken : List ℕ) × (written : List ℕ) × Consumes ib ie taken × Appends ob oe written × Replays s taken (IsAtEnd ie) written
+
+pub played_none : (i o : Option (List ℕ)) (chunk : List ℕ) (used : ℕ) → chunk ≡ [] → used ≡ 0 → Played i i o o None 0 used chunk
+played_none i o chunk used e u = record {
+  taken = [];
+  written = [];
+  lines = [];
+  consumes = Consumes-nil i;
+  appends = Appends-nil o;
+  splits = record { joined = sym e; are_lines = tt; within = omega arith };
+  led = (refl, refl);
+  number_is = refl;
+  used_is = sym u;
+}
+
+pub ends_unstarted : (i o : Option (List ℕ)) → Replayed i i o o status.NoMemory
+ends_unstarted i o =
+    let none : Splits [] [] [] = record { joined = refl; are_lines = tt; within = omega arith } in
+    ([], [], Consumes-nil i, Appends-nil o, ([], [], [], 0, inl none, refl, refl))
+
+pub played_few : (ib im ob om : Option (List ℕ)) (w : Option World) (number used : ℕ) (chunk : List ℕ) → Played ib im ob om w number used chunk → number ≤ most_of_script
+played_few ib im ob om w number used chunk p = omega (arith, p.number_is, lines_few p.lines, p.splits.within)
+
+pub played_ready : (ib im ob om : Option (List ℕ)) (w : Option World) (number used : ℕ) (chunk : List ℕ) → Played ib im ob om w number used chunk → IsReady w
+played_ready ib im ob om w number used chunk p = led_ready w p.lines p.written p.led (omega (arith, lines_few p.lines, p.splits.within))
+
+module _ (ib im ob om : Option (List ℕ)) (w : Option World) (number used : ℕ) (chunk : List ℕ) (p : Played ib im ob om w number used chunk) (ie : Option (List ℕ)) (t : List ℕ) (c : Consumes im ie t) where
+  all_taken : Consumes ib ie (p.taken ++ t)
+  all_taken = Consumes-trans ib im ie p.taken t p.consumes c
+
+  pub ends_limit : PassesLimit used (chunk ++ t) → Replayed ib ie ob om status.TooLong
+  ends_limit h =
+      (p.taken ++ t, p.written, all_taken, p.appends, (p.lines, chunk ++ t, splits_more p.taken t chunk p.lines p.splits, subst (λ (u : ℕ). PassesLimit u (chunk ++ t)) (sym p.used_is) h, led_leads w p.lines p.written p.led))
+
+  pub ends_fault : FitsFront used (chunk ++ t) → Replayed ib ie ob om status.ReadFault
+  ends_fault f =
+      let open_rest : IsOpen p.lines (chunk ++ t) = record { is_line = f.is_line; within = omega (arith, p.used_is, f.fits) } in
+      (p.taken ++ t, p.written, all_taken, p.appends, (p.lines, chunk ++ t, splits_more p.taken t chunk p.lines p.splits, open_rest, led_leads w p.lines p.written p.led))
+
+  pub ends_memory : Replayed ib ie ob om status.NoMemory
+  ends_memory =
+      (p.taken ++ t, p.written, all_taken, p.appends, (p.lines, chunk ++ t, p.written, length p.written, inl (splits_more p.taken t chunk p.lines p.splits), led_leads w p.lines p.written p.led, sym (take_all (length p.written) p.written (omega arith))))
+
+  pub ends_line : (oe : Option (List ℕ)) (line rest more : List ℕ) (new : Option World) (n : ℕ) (s : Status) → chunk ++ t ≡ line ++ 10 ∷ rest → FitsWhole used line → n ≡ number + 1 → Appends om oe more → Ends s n w new line more
+      → Replayed ib ie ob oe s
+  ends_line oe line rest more new n s e f n_is a h =
+      let fits : FitsWhole (length (text_of p.lines)) line = subst (λ (u : ℕ). FitsWhole u line) (sym p.used_is) f in
+      let split = splits_more p.taken t chunk p.lines p.splits in
+      let next : IsNext (IsAtEnd ie) p.lines (chunk ++ t) line = (f.is_line, inl (rest, e, fits.fits)) in (
+        p.taken ++ t,
+        p.written ++ more,
+        all_taken,
+        Appends-trans ob om oe p.written more p.appends a,
+        stops (p.taken ++ t) (chunk ++ t) rest line p.written more p.lines (IsAtEnd ie) w new n s split next (inl (splits_line (p.taken ++ t) (chunk ++ t) line rest p.lines split e fits)) p.led (n_is ∙ ap (λ (k : ℕ). k + 1) p.number_is) h,
+      )
+
+  pub goes_on : (oe : Option (List ℕ)) (line rest more : List ℕ) (new : Option World) (n u : ℕ) → chunk ++ t ≡ line ++ 10 ∷ rest → FitsWhole used line → n ≡ number + 1 → u ≡ used + length line + 1 → Appends om oe more → LeadsOn w new line more
+      → Played ib ie ob oe new n u rest
+  goes_on oe line rest more new n u e f n_is u_is a h =
+      let fits : FitsWhole (length (text_of p.lines)) line = subst (λ (u : ℕ). FitsWhole u line) (sym p.used_is) f in
+      let split = splits_more p.taken t chunk p.lines p.splits in
+      record {
+        taken = p.taken ++ t;
+        written = p.written ++ more;
+        lines = p.lines ++ line ∷ [];
+        consumes = all_taken;
+        appends = Appends-trans ob om oe p.written more p.appends a;
+        splits = splits_line (p.taken ++ t) (chunk ++ t) line rest p.lines split e fits;
+        led = h p.lines p.written p.led;
+        number_is = omega (arith, n_is, p.number_is, length-append p.lines (line ∷ []));
+        used_is = omega (arith, u_is, p.used_is, text_length p.lines line);
+      }
+
+  last_all : (line : List ℕ) → chunk ++ t ≡ line → FitsFront used line → 0 < length line → AreAll (p.taken ++ t) (p.lines ++ line ∷ [])
+  last_all line e f long =
+      let split : Splits (p.taken ++ t) p.lines line = subst (Splits (p.taken ++ t) p.lines) e (splits_more p.taken t chunk p.lines p.splits) in
+      let rest_open : IsOpen p.lines line = record { is_line = f.is_line; within = omega (arith, p.used_is, f.fits) } in
+      inr (p.lines, line, refl, split, rest_open, long)
+
+  is_last : (lines : List (List ℕ)) (line : List ℕ) → 0 < length line → IsLast lines line
+  is_last [] line h = tt
+  is_last (l ∷ lines) line h = h
+
+  last_next : (line : List ℕ) → IsAtEnd ie → chunk ++ t ≡ line → FitsFront used line → 0 < length line → IsNext (IsAtEnd ie) p.lines (chunk ++ t) line
+  last_next line end e f long =
+      let whole : IsOpen p.lines line = record { is_line = f.is_line; within = omega (arith, p.used_is, f.fits) } in
+      (f.is_line, inr (end, is_last p.lines line long, subst (IsOpen p.lines) (sym e) whole, e))
+
+  last_ends : (oe : Option (List ℕ)) (line more : List ℕ) (new : Option World) (n : ℕ) (s : Status) → IsAtEnd ie → chunk ++ t ≡ line → FitsFront used line → 0 < length line → n ≡ number + 1 → Appends om oe more → Ends s n w new line more
+      → Replayed ib ie ob oe s
+  last_ends oe line more new n s end e f long n_is a h = (
+    p.taken ++ t,
+    p.written ++ more,
+    all_taken,
+    Appends-trans ob om oe p.written more p.appends a,
+    stops (p.taken ++ t) (chunk ++ t) [] line p.written more p.lines (IsAtEnd ie) w new n s (splits_more p.taken t chunk p.lines p.splits) (last_next line end e f long) (inr (last_all line e f long)) p.led (n_is ∙ ap (λ (k : ℕ). k + 1) p.number_is) h,
+  )
+
+  pub ends_last : (oe : Option (List ℕ)) (line more : List ℕ) (new : Option World) (n : ℕ) (s : Status) → IsAtEnd ie → chunk ++ t ≡ line → FitsFront used line → 0 < length line → n ≡ number + 1 → Appends om oe more → SaysLast s n w new line more
+      → Replayed ib ie ob oe s
+  ends_last oe line more new n status.Done end e f long n_is a h = (
+    p.taken ++ t,
+    p.written ++ more,
+    all_taken,
+    Appends-trans ob om oe p.written more p.appends a,
+    done (p.taken ++ t) (p.written ++ more) (p.lines ++ line ∷ []) (IsAtEnd ie) new end (last_all line e f long) (h p.lines p.written p.led) (no_end p.lines line),
+  )
+  ends_last oe line more new n (status.BadScript at place) end e f long n_is a h = last_ends oe line more new n (status.BadScript at place) end e f long n_is a h
+  ends_last oe line more new n status.WriteFault end e f long n_is a h = last_ends oe line more new n status.WriteFault end e f long n_is a h
+  ends_last oe line more new n status.NoMemory end e f long n_is a h = last_ends oe line more new n status.NoMemory end e f long n_is a h
+  ends_last oe line more new n status.BadWords end e f long n_is a h = absurd h
+  ends_last oe line more new n status.ReadFault end e f long n_is a h = absurd h
+  ends_last oe line more new n status.TooLong end e f long n_is a h = absurd h
+
+  pub ends_end : IsAtEnd ie → chunk ++ t ≡ [] → Replayed ib ie ob om (end_of w)
+  ends_end end e =
+      (p.taken ++ t, p.written, all_taken, p.appends, ended_at w (p.taken ++ t) p.written (chunk ++ t) p.lines (IsAtEnd ie) end (splits_more p.taken t chunk p.lines p.splits) e p.led)

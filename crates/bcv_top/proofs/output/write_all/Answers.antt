@@ -1,0 +1,25 @@
+use Rattle.std.proofs.Common.{◌++◌, take, arith}
+use Rattle.std.proofs.KnownBytes.{Appends-trans}
+use Rattle.bcv_top.proofs.Writer.{wrote_more, wrote_front, wrote_nothing}
+use Rattle.bcv_top.proofs.output.write_all.Goals as goal
+
+pub loop-rest-preserved : goal.loop-rest-preserved
+loop-rest-preserved g c =
+    let inv = c.loop-rest.invariant in
+    let rest = c.loop-rest.rest.now in
+    record {
+      written = inv.written ++ take c.in-Some.count rest;
+      appends = Appends-trans (g.O.Sink.given c.args.out.now) (g.O.Sink.given c.loop-rest.out) (g.O.Sink.given c.give.new.self) inv.written (take c.in-Some.count rest) inv.appends c.in-Some.ensures.bytes.2;
+      joined = wrote_more inv.written rest c.args.text.now c.after-left.result.now c.in-Some.count inv.joined c.after-left.ensures;
+      later = omega (arith, inv.later, c.in-Some.ensures.cause);
+    }
+
+pub returns-in-Failed-clause-bytes : goal.returns-in-Failed-clause-bytes
+returns-in-Failed-clause-bytes g c =
+    wrote_front (g.O.Sink.given c.args.out.now) (g.O.Sink.given c.loop-rest.out) (g.O.Sink.given c.give.new.self) c.loop-rest.invariant.written c.loop-rest.rest.now c.args.text.now c.loop-rest.invariant.appends c.loop-rest.invariant.joined
+    c.in-Failed.ensures.bytes
+
+pub returns-in-NoMemory-clause-bytes : goal.returns-in-NoMemory-clause-bytes
+returns-in-NoMemory-clause-bytes g c =
+    wrote_nothing (g.O.Sink.given c.args.out.now) (g.O.Sink.given c.loop-rest.out) (g.O.Sink.given c.give.new.self) c.loop-rest.invariant.written c.loop-rest.rest.now c.args.text.now c.loop-rest.invariant.appends c.loop-rest.invariant.joined
+    c.in-NoMemory.ensures.bytes

@@ -1,0 +1,9 @@
+-- What was written of a text.
+use Rattle.std.specs.Prelude.{◌≡◌, ℕ, List, take}
+use Rattle.bcv_top.specs.declared.output.Wrote.{Wrote}
+use Rattle.bcv_top.specs.declared.output.Wrote.TheVariants as wrote
+
+-- all of it, or some front
+abbrev pub Writes : Wrote → List ℕ → List ℕ → Type 0
+Writes wrote.All text written = written ≡ text
+Writes _ text written = (k : ℕ) × (written ≡ take k text)

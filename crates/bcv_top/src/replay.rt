@@ -1,0 +1,184 @@
+ghost use Rattle.std.specs.Prelude.{◌≡◌, ◌≢◌, ℕ, ◌^◌, ◌<◌, ◌≤◌, [], true, List, length, Err};
+ghost use Rattle.std.specs.Io.KnownBytes.{Appends, Consumes, IsAtEnd};
+ghost use Rattle.bcv_base.specs.Faults.{Rose};
+ghost use Rattle.bcv_top.specs.Headline.{Replays, HasCauses};
+ghost use Rattle.bcv_top.specs.Led.{IsReady, Steps, Says, SaysLast, First, Answers, end_of, stopped_by, writing_end_of};
+ghost use Rattle.bcv_world.specs.FirstPath.{is_world};
+ghost use Rattle.bcv_world.specs.Stands.{IsGood};
+
+use crate::lines::{Lines, Next};
+use crate::output::{Wrote, write_all};
+use crate::status::Status;
+use bcv_base::{Sink, Source};
+use bcv_script::{LineFault, read_line, read_world, write_reply};
+use bcv_world::World;
+use std::alloc::Global;
+
+// Replays the script of the input: line by line, each reply is written before more of the input is asked for.
+pub fn run<I: Source, O: Sink>(alloc: Global, input: &mut I, out: &mut O) -> Status
+    ensures words { result ≢ Status.BadWords }
+    ensures replays { (taken : List ℕ) × (written : List ℕ) × Consumes (I.left input.old) (I.left input.new) taken × Appends (O.given out.old) (O.given out.new) written × Replays result taken (IsAtEnd (I.left input.new)) written }
+    ensures causes { HasCauses (I.faults input.old) (I.faults input.new) (O.faults out.old) (O.faults out.new) result }
+{
+    let mut reader = match Lines::new(alloc) {
+        Ok(reader) => reader,
+        Err(_) => return Status::NoMemory,
+    };
+    let mut world = None;
+    let mut number = 0;
+    'lines: loop {
+        match reader.next(input) {
+            Next::Line => {
+                number += 1;
+                let line = reader.line.as_slice();
+                match say(alloc, &mut world, number, line, out) {
+                    Ok(()) => {}
+                    Err(status) => return status,
+                }
+            }
+            Next::Last => {
+                let last = reader.line.as_slice();
+                return say_last(alloc, &mut world, number + 1, last, out);
+            }
+            Next::End => return ended(&world),
+            Next::TooLong => return Status::TooLong,
+            Next::ReadFault => return Status::ReadFault,
+            Next::NoMemory => return Status::NoMemory,
+        }
+    }
+}
+
+// The status of an input that has ended after whole lines.
+fn ended(world: &Option<World>) -> Status
+    ensures { result ≡ end_of world.now }
+{
+    match world {
+        Some(_) => Status::Done,
+        None => Status::BadScript { line: 1, at: 0 },
+    }
+}
+
+// Applies the last line, which ends with the input.
+fn say_last<O: Sink>(
+    alloc: Global,
+    world: &mut Option<World>,
+    number: u64,
+    line: &[u8],
+    out: &mut O,
+) -> Status
+    requires ready { IsReady world.old }
+    requires short { length line.now ≤ 1048576 }
+    ensures says { (written : List ℕ) × Appends (O.given out.old) (O.given out.new) written × SaysLast result number world.old world.new line.now written }
+    ensures later { O.faults out.old ≤ O.faults out.new }
+    ensures cause { result ≡ Status.WriteFault → Rose (O.faults out.old) (O.faults out.new) }
+{
+    match say(alloc, world, number, line, out) {
+        Ok(()) => Status::Done,
+        Err(status) => status,
+    }
+}
+
+// Applies the line of a number and writes its reply; an error is how the replay ends there.
+fn say<O: Sink>(
+    alloc: Global,
+    world: &mut Option<World>,
+    number: u64,
+    line: &[u8],
+    out: &mut O,
+) -> Result<(), Status>
+    requires ready { IsReady world.old }
+    requires short { length line.now ≤ 1048576 }
+    ensures says { (written : List ℕ) × Appends (O.given out.old) (O.given out.new) written × Says result number world.old world.new line.now written }
+    ensures later { O.faults out.old ≤ O.faults out.new }
+    ensures cause { result ≡ Err Status.WriteFault → Rose (O.faults out.old) (O.faults out.new) }
+{
+    let mut text = Vec::new(alloc);
+    match step(alloc, world, line, &mut text) {
+        Ok(()) => {}
+        Err(fault) => return Err(stopped(number, fault)),
+    }
+    let bytes = text.as_slice();
+    let wrote = write_all(out, bytes);
+    writing_end(wrote)
+}
+
+// The status of a line that gave nothing.
+fn stopped(number: u64, fault: LineFault) -> Status
+    ensures { result ≡ stopped_by number fault }
+{
+    match fault {
+        LineFault::BadLine => Status::BadScript {
+            line: number,
+            at: 0,
+        },
+        LineFault::NoMemory => Status::NoMemory,
+    }
+}
+
+// What the writing of a reply comes to.
+fn writing_end(wrote: Wrote) -> Result<(), Status>
+    ensures { result ≡ writing_end_of wrote }
+{
+    match wrote {
+        Wrote::All => Ok(()),
+        Wrote::Failed => Err(Status::WriteFault),
+        Wrote::NoMemory => Err(Status::NoMemory),
+    }
+}
+
+// Takes a line: the first one fixes the world, each other one is an event in it.
+fn step(
+    alloc: Global,
+    world: &mut Option<World>,
+    line: &[u8],
+    text: &mut Vec<u8>,
+) -> Result<(), LineFault>
+    requires ready { IsReady world.old }
+    requires short { length line.now ≤ 1048576 }
+    requires empty { text.old.items ≡ [] }
+    ensures { Steps world.old world.new line.now text.new.items result }
+{
+    match world {
+        Some(world) => answer(alloc, world, line, text),
+        None => {
+            let first = first_world(alloc, line)?;
+            *world = Some(first);
+            Ok(())
+        }
+    }
+}
+
+// The world that a script's first line fixes.
+fn first_world(alloc: Global, line: &[u8]) -> Result<World, LineFault>
+    requires { length line.now ≤ 1048576 }
+    ensures { First result line.now }
+{
+    let spec = read_world(line)?;
+    if spec.clients != 1 {
+        return Err(LineFault::BadLine);
+    }
+    Ok(World::new(alloc, &spec))
+}
+
+// Applies a line's event to the world, and adds the text of what is said of it.
+fn answer(
+    alloc: Global,
+    world: &mut World,
+    line: &[u8],
+    text: &mut Vec<u8>,
+) -> Result<(), LineFault>
+    requires good { IsGood world.old }
+    requires world { is_world world.old.spec ≡ true }
+    requires few { world.old.applied < 2 ^ 62 }
+    requires short { length line.now ≤ 1048576 }
+    requires empty { text.old.items ≡ [] }
+    ensures { Answers result world.old world.new line.now text.new.items }
+{
+    let event = read_line(alloc, world.spec(), line)?;
+    if !world.allows(&event) {
+        return Err(LineFault::BadLine);
+    }
+    let said = world.apply(alloc, event)?;
+    write_reply(&said, text)?;
+    Ok(())
+}

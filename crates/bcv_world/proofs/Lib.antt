@@ -1,0 +1,14 @@
+pub mod Allowed
+pub mod BlockLaws
+pub mod BlockTexts
+pub mod First
+pub mod HereLaws
+pub mod HistoryLaws
+pub mod KeyedParts
+pub mod LogParts
+pub mod Moved
+pub mod NewLaws
+pub mod PublishingLaws
+pub mod PutLaws
+pub mod ReadingLaws
+pub mod StepLaws

@@ -1,0 +1,5 @@
+use Rattle.std.proofs.Common.{arith}
+use Rattle.bcv_world.proofs.world.World.allows_new.Goals as goal
+
+pub nonzero_div-self : goal.nonzero_div-self
+nonzero_div-self c = omega (arith, c.requires.fits.sizes.page)

@@ -1,0 +1,5 @@
+pub mod FirstPath
+pub mod Layout
+pub mod Moves
+pub mod Seen
+pub mod Stands
