@@ -3,6 +3,8 @@ pub mod Drawn
 pub mod Edits
 pub mod Faults
 pub mod Ids
+pub mod History
+pub mod HistoryLaws
 pub mod Image
 pub mod Joined
 pub mod Keyed
@@ -19,4 +21,5 @@ pub mod Padded
 pub mod Plan
 pub mod Streams
 pub mod Version
+pub mod Versions
 pub mod Views

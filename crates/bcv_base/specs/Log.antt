@@ -47,17 +47,6 @@ abbrev pub is_put_of : ObjName → Entry → Bool
 is_put_of name (entry.Put own other bytes etag) = name_eq other name
 is_put_of name (entry.Deleted own other at) = false
 
--- the entry is a deletion of the name
-abbrev pub is_deletion_of : ObjName → Entry → Bool
-is_deletion_of name (entry.Put own other bytes etag) = false
-is_deletion_of name (entry.Deleted own other at) = name_eq other name
-
--- the first bytes put under a name, where there are any
-abbrev pub first_put : ObjName → List Entry → Option (List ℕ)
-first_put name [] = None
-first_put name (entry.Put own other bytes etag ∷ es) = if name_eq other name then Some bytes else first_put name es
-first_put name (entry.Deleted own other at ∷ es) = first_put name es
-
 -- how often something was put under a name
 abbrev pub put_count : ObjName → List Entry → ℕ
 put_count name log = count_by (is_put_of name) log

@@ -1,9 +1,8 @@
 -- Laws of logs: what one more entry changes, and what stays under further ones.
-use Rattle.std.proofs.Common.{◌≡◌, ◌∙◌, ℕ, ◌+◌, ◌<◌, ◌≤◌, Bool, true, false, not, ◌&&◌, List, [], ◌∷◌, ◌++◌, Option, Some, None, nat_lt, if◌then◌else◌, refl, sym, ap, arith}
+use Rattle.std.proofs.Common.{◌≡◌, ◌∙◌, ℕ, ◌+◌, ◌<◌, Bool, true, false, ◌&&◌, List, [], ◌∷◌, ◌++◌, Option, Some, None, nat_lt, if◌then◌else◌, refl, sym, ap, arith}
 use Rattle.std.proofs.lemmas.Slice.Eq.{bytes_eq-Decides}
 use Rattle.std.proofs.lemmas.List.Folds.{list_all-append}
 use Rattle.std.proofs.lemmas.List.Sums.{sum_by-append}
-use Rattle.std.specs.Option.{option_map}
 use Rattle.std.specs.List.{list_all}
 use Rattle.std.specs.Cmp.{first_so, second_so}
 use borrow.Author.Tests.{ltb-true}
@@ -11,8 +10,7 @@ use Rattle.bcv_base.specs.declared.object.ObjName.{ObjName}
 use Rattle.bcv_base.specs.declared.object.ObjName.TheVariants as object
 use Rattle.bcv_base.specs.declared.log.Entry.{Entry}
 use Rattle.bcv_base.specs.declared.log.Entry.TheVariants as entry
-use Rattle.bcv_base.specs.Image.{or_else}
-use Rattle.bcv_base.specs.Log.{Object, name_eq, entry_name, entry_object, object_step, object_after, object_of, is_put_of, is_deletion_of, first_put, put_count, rises_over, may_follow, are_rising}
+use Rattle.bcv_base.specs.Log.{Object, name_eq, entry_name, entry_object, object_step, object_after, object_of, is_put_of, put_count, rises_over, may_follow, are_rising}
 
 -- ---- names
 
@@ -56,23 +54,6 @@ object_of-put log own name bytes etag = object_of-same log (entry.Put own name b
 pub object_of-deleted : (log : List Entry) (own : Bool) (name : ObjName) (at : ℕ) → object_of name (log ++ entry.Deleted own name at ∷ []) ≡ None
 object_of-deleted log own name at = object_of-same log (entry.Deleted own name at)
 
--- ---- the first bytes put under a name
-
--- those of the first part of a log, else those of the rest
-pub first_put-append : (name : ObjName) (log more : List Entry) → first_put name (log ++ more) ≡ or_else (first_put name log) (first_put name more)
-first_put-append name [] more = refl
-first_put-append name (entry.Put own other bytes etag ∷ es) more = pick (name_eq other name) (first_put-append name es more)
-  where
-    pick : (b : Bool) → first_put name (es ++ more) ≡ or_else (first_put name es) (first_put name more)
-        → (if b then Some bytes else first_put name (es ++ more)) ≡ or_else (if b then Some bytes else first_put name es) (first_put name more)
-    pick true h = refl
-    pick false h = h
-first_put-append name (entry.Deleted own other at ∷ es) more = first_put-append name es more
-
--- they stay under further entries
-pub first_put-stays : (name : ObjName) (log more : List Entry) (bytes : List ℕ) → first_put name log ≡ Some bytes → first_put name (log ++ more) ≡ Some bytes
-first_put-stays name log more bytes h = first_put-append name log more ∙ ap (λ (o : Option (List ℕ)). or_else o (first_put name more)) h
-
 -- ---- how often something was put
 
 pub put_count-append : (name : ObjName) (log more : List Entry) → put_count name (log ++ more) ≡ put_count name log + put_count name more
@@ -80,60 +61,6 @@ put_count-append name log more = sum_by-append _ log more
 
 pub put_count-cons : (name : ObjName) (e : Entry) (es : List Entry) → put_count name (e ∷ es) ≡ (if is_put_of name e then 1 else 0) + put_count name es
 put_count-cons name e es = put_count-append name (e ∷ []) es ∙ omega arith
-
--- a name that was never put has no first bytes
-pub first_put-none : (name : ObjName) (log : List Entry) → put_count name log ≡ 0 → first_put name log ≡ None
-first_put-none name [] h = refl
-first_put-none name (entry.Put own other bytes etag ∷ es) h = pick (name_eq other name) (sym (put_count-cons name (entry.Put own other bytes etag) es) ∙ h) (λ (g : put_count name es ≡ 0). first_put-none name es g)
-  where
-    pick : (b : Bool) → (if b then 1 else 0) + put_count name es ≡ 0 → (put_count name es ≡ 0 → first_put name es ≡ None) → (if b then Some bytes else first_put name es) ≡ None
-    pick true h more = absurd (omega arith)
-    pick false h more = more (omega arith)
-first_put-none name (entry.Deleted own other at ∷ es) h = first_put-none name es (omega (arith, put_count-cons name (entry.Deleted own other at) es))
-
--- ---- a name that is put once and not deleted
-
--- no entry deletes the name
-abbrev pub has_no_deletion : ObjName → List Entry → Bool
-has_no_deletion name log = list_all (λ e. not (is_deletion_of name e)) log
-
--- entries that neither put nor delete the name leave its object
-pub object_after-untouched : (name : ObjName) (o : Option Object) (log : List Entry) → has_no_deletion name log ≡ true → put_count name log ≡ 0 → object_after name o log ≡ o
-object_after-untouched name o [] kept none = refl
-object_after-untouched name o (entry.Put own other bytes etag ∷ es) kept none =
-    pick (name_eq other name) (sym (put_count-cons name (entry.Put own other bytes etag) es) ∙ none) (λ (g : put_count name es ≡ 0). object_after-untouched name o es kept g)
-  where
-    pick : (b : Bool) → (if b then 1 else 0) + put_count name es ≡ 0 → (put_count name es ≡ 0 → object_after name o es ≡ o)
-        → object_after name (if b then Some (record { bytes = bytes; etag = etag }) else o) es ≡ o
-    pick true h more = absurd (omega arith)
-    pick false h more = more (omega arith)
-object_after-untouched name o (entry.Deleted own other at ∷ es) kept none =
-    pick (name_eq other name) kept (λ (g : has_no_deletion name es ≡ true). object_after-untouched name o es g (omega (arith, put_count-cons name (entry.Deleted own other at) es)))
-  where
-    pick : (b : Bool) → (not b && has_no_deletion name es) ≡ true → (has_no_deletion name es ≡ true → object_after name o es ≡ o)
-        → object_after name (if b then None else o) es ≡ o
-    pick true h more = absurd (cc)
-    pick false h more = more h
-
--- where nothing deletes a name and it is put at most once, its object has the first bytes put
-pub object_of-first_put : (name : ObjName) (log : List Entry) → has_no_deletion name log ≡ true → put_count name log ≤ 1
-    → option_map (λ (x : Object). x.bytes) (object_of name log) ≡ first_put name log
-object_of-first_put name [] kept once = refl
-object_of-first_put name (entry.Put own other bytes etag ∷ es) kept once =
-    pick (name_eq other name) (omega (arith, put_count-cons name (entry.Put own other bytes etag) es)) (λ (g : put_count name es ≤ 1). object_of-first_put name es kept g)
-  where
-    pick : (b : Bool) → (if b then 1 else 0) + put_count name es ≤ 1 → (put_count name es ≤ 1 → option_map (λ (x : Object). x.bytes) (object_of name es) ≡ first_put name es)
-        → option_map (λ (x : Object). x.bytes) (object_after name (if b then Some (record { bytes = bytes; etag = etag }) else None) es) ≡ (if b then Some bytes else first_put name es)
-    pick true h more = ap (option_map (λ (x : Object). x.bytes)) (object_after-untouched name (Some (record { bytes = bytes; etag = etag })) es kept (omega arith))
-    pick false h more = more (omega arith)
-object_of-first_put name (entry.Deleted own other at ∷ es) kept once =
-    pick (name_eq other name) kept (λ (g : has_no_deletion name es ≡ true). object_of-first_put name es g (omega (arith, put_count-cons name (entry.Deleted own other at) es)))
-  where
-    pick : (b : Bool) → (not b && has_no_deletion name es) ≡ true
-        → (has_no_deletion name es ≡ true → option_map (λ (x : Object). x.bytes) (object_of name es) ≡ first_put name es)
-        → option_map (λ (x : Object). x.bytes) (object_after name (if b then None else None) es) ≡ first_put name es
-    pick true h more = absurd (cc)
-    pick false h more = more h
 
 -- ---- etags that rise
 

@@ -1,5 +1,5 @@
-ghost use Rattle.std.specs.Prelude.{◌≡◌, MatchOption, IfSome, Some, length};
-ghost use Rattle.bcv_base.specs.Ids.{id_eq, IsId};
+ghost use Rattle.std.specs.Prelude.{◌≡◌, MatchOption, IfSome, Some, length, true};
+ghost use Rattle.bcv_base.specs.Ids.{id_eq, are_bytes, IsId};
 ghost use Rattle.bcv_base.specs.Names.{hex_of};
 ghost use Rattle.bcv_base.specs.declared.id.Id16.{Id16};
 
@@ -10,6 +10,14 @@ use hex::FromHex;
 pub struct Id16(pub [u8; 16]);
 
 impl Id16 {
+    /// The sixteen bytes. A caller that has to show that an id is one finds it here.
+    pub fn bytes(&self) -> &[u8]
+        ensures bytes { result.now ≡ self.now.0 }
+        ensures id { IsId self.now }
+    {
+        as_bytes(&self.0)
+    }
+
     /// Whether two ids are the same.
     pub fn same_as(&self, other: &Id16) -> bool
         ensures { result ≡ id_eq self.now other.now }
@@ -36,6 +44,14 @@ impl Id16 {
             None
         }
     }
+}
+
+// A slice of bytes, of which each is below 256.
+fn as_bytes(bytes: &[u8]) -> &[u8]
+    ensures same { result.now ≡ bytes.now }
+    ensures below { are_bytes bytes.now ≡ true }
+{
+    bytes
 }
 
 // Sixteen bytes as hex digits in lower case.

@@ -3,7 +3,9 @@ pub mod Joined
 pub mod Laws
 pub mod Lists
 pub mod Loop
+pub mod Marked
 pub mod Readers
 pub mod Rows
 pub mod Searched
+pub mod Unlisted
 pub mod Whole

@@ -2,32 +2,35 @@
 use Rattle.std.proofs.Common.{◌≡◌, ℕ, ◌+◌, ◌<◌, Bool, List, ◌++◌, length, get_or, take, Option, Result, Ok, Err, sym, ap, ◌∙◌, arith, inl, inr}
 use Rattle.std.specs.Prelude.{IsSorted, ◌||◌}
 use Rattle.std.specs.List.Sorted.{IsSearchInRange, IsBinarySearchResult}
+use Rattle.std.specs.List.{list_any}
 use Rattle.std.specs.Ordering.{is_eq, nat_cmp}
 use Rattle.std.specs.Cmp.Lexicographic.{slice_cmp, texts_ties, nat_list_cmp_total}
 use Rattle.std.specs.Result.{is_ok}
+use Rattle.std.specs.Str.{bytes_eq}
 use Rattle.std.proofs.lemmas.Bool.{cases_lt}
 use Rattle.std.proofs.lemmas.List.Folds.{list_any_at, list_any_none, list_any_more, list_any-append}
 use Rattle.std.proofs.lemmas.List.Sorted.{searchable_from_sorted}
 use Rattle.bcv_base.specs.declared.id.Id16.{Id16}
 use Rattle.bcv_base.specs.declared.manifest.DbEntry.{DbEntry}
-use Rattle.bcv_base.specs.Ids.{id_eq, has_id}
+use Rattle.bcv_base.specs.Ids.{has_id}
 use Rattle.bcv_base.specs.ManifestGrammar.{items_at, dead_at}
 use Rattle.bcv_base.specs.ManifestRules.{dead_id, lists}
 
-pub searched : (ids : List Id16) (x : Id16) (r : Result ℕ ℕ) → IsSorted (λ a b. slice_cmp nat_cmp a.0 b.0) ids → IsSearchInRange r (length ids)
-    → IsBinarySearchResult (λ y. slice_cmp nat_cmp y.0 x.0) ids r → is_ok r ≡ has_id x ids
-searched ids x (Ok i) sorted range found = sym (list_any_at (λ y. id_eq y x) ids i x range (texts_ties (get_or ids i x).0 x.0 ∙ ap is_eq (found x)))
-searched ids x (Err i) sorted range found =
-    let parts = found (searchable_from_sorted nat_list_cmp_total (λ (k : Id16). k.0) ids x.0 sorted) in
-    sym (list_any_none (λ y. id_eq y x) ids (λ k d lt. elim (cases_lt k i) [
-      | inl below ↦ texts_ties (get_or ids k d).0 x.0 ∙ ap is_eq (parts.0 k d (omega arith) below)
-      | inr above ↦ texts_ties (get_or ids k d).0 x.0 ∙ ap is_eq (parts.1 k d above lt)
+-- a search by key answers whether the key is there
+pub searched : {A : Type 0} (key : A → List ℕ) (d : A) (xs : List A) (x : List ℕ) (r : Result ℕ ℕ) → IsSorted (λ a b. slice_cmp nat_cmp (key a) (key b)) xs → IsSearchInRange r (length xs)
+    → IsBinarySearchResult (λ y. slice_cmp nat_cmp (key y) x) xs r → is_ok r ≡ list_any (λ y. bytes_eq (key y) x) xs
+searched key d xs x (Ok i) sorted range found = sym (list_any_at (λ y. bytes_eq (key y) x) xs i d range (texts_ties (key (get_or xs i d)) x ∙ ap is_eq (found d)))
+searched key d xs x (Err i) sorted range found =
+    let parts = found (searchable_from_sorted nat_list_cmp_total key xs x sorted) in
+    sym (list_any_none (λ y. bytes_eq (key y) x) xs (λ k e lt. elim (cases_lt k i) [
+      | inl below ↦ texts_ties (key (get_or xs k e)) x ∙ ap is_eq (parts.0 k e (omega arith) below)
+      | inr above ↦ texts_ties (key (get_or xs k e)) x ∙ ap is_eq (parts.1 k e above lt)
     ]))
 
 -- one more database's ids
 pub lists_more : (i : Id16) (ids : List Id16) (dbs : List DbEntry) (n : ℕ) (d : DbEntry) → n < length dbs → has_id i ids ≡ lists (take n dbs) i → has_id i (ids ++ (get_or dbs n d).blocks) ≡ lists (take (n + 1) dbs) i
 lists_more i ids dbs n d lt h =
-    list_any-append (λ x. id_eq x i) ids (get_or dbs n d).blocks ∙ ap (λ (b : Bool). b || has_id i (get_or dbs n d).blocks) h ∙ sym (list_any_more (λ (e : DbEntry). has_id i e.blocks) dbs n d lt)
+    list_any-append (λ x. bytes_eq x.0 i.0) ids (get_or dbs n d).blocks ∙ ap (λ (b : Bool). b || has_id i (get_or dbs n d).blocks) h ∙ sym (list_any_more (λ (e : DbEntry). has_id i e.blocks) dbs n d lt)
 
 -- a list of dead blocks is read alike by two tests that answer alike
 pub same_dead : (f g : Id16 → Bool) → ((i : Id16) → f i ≡ g i) → (n : ℕ) (before : Option (List ℕ)) (bytes : List ℕ) → items_at dead_id (dead_at f) n before bytes ≡ items_at dead_id (dead_at g) n before bytes

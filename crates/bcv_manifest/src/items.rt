@@ -1,6 +1,6 @@
 //! Lists of fields.
 
-ghost use Rattle.std.specs.Prelude.{◌≡◌, ◌≤◌, ◌&&◌, length, Ok, None, nat_le, IsSorted};
+ghost use Rattle.std.specs.Prelude.{◌≡◌, ◌≤◌, ◌&&◌, length, Ok, None, nat_le, IfSome, IsSorted};
 ghost use Rattle.std.specs.Int.{w32};
 ghost use Rattle.std.specs.Option.{option_map};
 ghost use Rattle.std.specs.Ordering.{nat_cmp};
@@ -11,7 +11,7 @@ ghost use Rattle.bcv_base.specs.ManifestRules.{writer_id, db_name, dead_id, list
 ghost use Rattle.bcv_base.specs.ManifestText.{id_text};
 ghost use Rattle.bcv_manifest.specs.Reading.{Gives};
 
-use crate::blocks::{is_one_of, listed_blocks};
+use crate::blocks::{is_one_of, listed_blocks, lists_dead};
 use crate::fault::Stop;
 use crate::fields::{id_of, name_len_of, name_of, number_of, u32_of, u64_of};
 use crate::rules::{blocks_needed, is_id_above, is_page_size};
@@ -197,6 +197,24 @@ fn dead_list_of<'a>(
     Ok((dead, rest))
 }
 
+// So many dead blocks, none of them listed by a database; none where a field is at fault, or memory ran out.
+fn right_dead_blocks_of<'a>(
+    alloc: Global,
+    dbs: &[DbEntry],
+    count: u32,
+    bytes: &'a [u8],
+) -> Option<(Vec<Dead>, &'a [u8])>
+    ensures { IfSome result (λ x. items_at dead_id (dead_at (lists dbs.now)) count None bytes.now ≡ Ok (x.0.items, x.1.now)) }
+{
+    let Ok((dead, rest)) = dead_list_of(alloc, &[], count, bytes) else {
+        return None;
+    };
+    match lists_dead(alloc, dbs, &dead) {
+        Ok(false) => Some((dead, rest)),
+        _ => None,
+    }
+}
+
 /// So many dead blocks, none of them listed by a database.
 pub(crate) fn dead_blocks_of<'a>(
     alloc: Global,
@@ -206,6 +224,10 @@ pub(crate) fn dead_blocks_of<'a>(
 ) -> Result<(Vec<Dead>, &'a [u8]), Stop>
     ensures { Gives (λ x. (x.0.items, x.1.now)) result (items_at dead_id (dead_at (lists dbs.now)) count None bytes.now) }
 {
+    if let Some(list) = right_dead_blocks_of(alloc, dbs, count, bytes) {
+        return Ok(list);
+    }
+    // The first field at fault is found by asking of each dead block, in its turn, whether it is listed.
     let listed = listed_blocks(alloc, dbs)?;
     dead_list_of(alloc, &listed, count, bytes)
 }

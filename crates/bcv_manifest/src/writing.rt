@@ -1,4 +1,5 @@
-ghost use Rattle.std.specs.Prelude.{◌≡◌, ◌<◌, ◌≤◌, ◌^◌, ◌++◌, ℕ, length, true, OnOk, OnErr, IfOk};
+ghost use Rattle.std.specs.Prelude.{◌≡◌, ◌<◌, ◌≤◌, ◌^◌, ◌++◌, ℕ, length, true, Ok, OnOk, OnErr, IfOk};
+ghost use Rattle.bcv_base.specs.ManifestGrammar.{manifest_of};
 ghost use Rattle.std.specs.Int.{w8, w32, w64, to_be_bytes};
 ghost use Rattle.std.specs.List.{flat_map};
 ghost use Rattle.bcv_base.specs.ManifestRules.{MeetsRules, MeetsLimits, MeetsEntryRules, is_block_size, manifest_length};
@@ -136,6 +137,7 @@ pub fn write_manifest(alloc: Global, manifest: &Manifest) -> Result<Vec<u8>, All
     requires rules { MeetsRules manifest.now }
     requires limits { MeetsLimits manifest.now }
     ensures text { IfOk result (λ v. v.items ≡ manifest_text manifest.now) }
+    ensures reads { IfOk result (λ v. manifest_of v.items ≡ Ok manifest.now) }
     ensures len { IfOk result (λ v. length v.items ≡ manifest_length manifest.now) }
 {
     spelled(alloc, manifest)

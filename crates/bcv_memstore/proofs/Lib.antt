@@ -1,4 +1,5 @@
 pub mod Asking
 pub mod Called
+pub mod Counting
 pub mod Listing
 pub mod Placing

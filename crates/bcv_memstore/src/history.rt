@@ -4,7 +4,7 @@ ghost use Rattle.std.specs.Vec.{vec_len, vec_capacity};
 ghost use Rattle.bcv_base.specs.declared.log.Entry.TheVariants as entry;
 ghost use Rattle.bcv_base.specs.declared.outcome.Outcome.TheVariants as outcome;
 ghost use Rattle.bcv_base.specs.declared.object.ObjName.TheVariants as object;
-ghost use Rattle.bcv_base.specs.Log.{object_of, is_put_of, put_count};
+ghost use Rattle.bcv_base.specs.Log.{object_of, name_eq, put_count};
 ghost use Rattle.bcv_store.specs.Asked.{holds, GetAnswers, ListAnswers};
 ghost use Rattle.bcv_store.specs.Within.{IsGotWithin, IsListedWithin};
 
@@ -14,23 +14,27 @@ use bcv_store::{Cond, Got, Listed};
 use std::alloc::{AllocError, Global};
 use std::marker::Model;
 
-/// A log with its index. Contracts see the list of its entries alone.
+/// A log, with an index of its objects and a count of the manifest's puts beside it, so that nothing walks the log.
+/// Contracts see the list of its entries alone.
 #[derive(Drop)]
 pub struct History {
     entries: Vec<Entry>,
     places: Places,
+    manifests: u64,
 }
 
 impl Model for History {
-    ghost use Rattle.std.specs.Prelude.{List};
+    ghost use Rattle.std.specs.Prelude.{◌≡◌, List};
     ghost use Rattle.bcv_base.specs.declared.log.Entry.{Entry};
+    ghost use Rattle.bcv_base.specs.declared.object.ObjName.TheVariants as object;
+    ghost use Rattle.bcv_base.specs.Log.{put_count};
     ghost use Rattle.bcv_memstore.specs.Index.{IsIndex};
 
     ghost Value = { List Entry };
 
     ghost view = { λ h. h.entries.items };
 
-    ghost invariant = { λ h. IsIndex h.places h.entries.items };
+    ghost invariant = { λ h. IsIndex h.places h.entries.items × (h.manifests ≡ put_count object.Manifest h.entries.items) };
 }
 
 impl History {
@@ -40,6 +44,7 @@ impl History {
         History {
             entries: Vec::new(alloc),
             places: Places::new(alloc),
+            manifests: 0,
         }
     }
 
@@ -65,6 +70,7 @@ impl History {
     {
         self.entries.reserve(1)?;
         self.places.set(name, self.entries.len())?;
+        self.manifests += u64::from(is_manifest(name));
         add(
             &mut self.entries,
             Entry::Put {
@@ -98,7 +104,7 @@ impl History {
     pub fn manifests(&self) -> u64
         ensures { result ≡ put_count object.Manifest self.now }
     {
-        manifests_in(&self.entries)
+        self.manifests
     }
 
     /// Whether the condition of a put holds.
@@ -152,29 +158,13 @@ impl History {
     }
 }
 
-// How many of the entries are puts of the manifest.
-fn manifests_in(entries: &[Entry]) -> u64
-    ensures { result ≡ put_count object.Manifest entries.now }
+// Whether the name is the manifest's.
+fn is_manifest(name: &ObjName) -> bool
+    ensures { result ≡ name_eq name.now object.Manifest }
 {
-    let mut count = 0;
-    for entry in entries {
-        if is_manifest(entry) {
-            count += 1;
-        }
-    }
-    count
-}
-
-// Whether the entry is a put of the manifest.
-fn is_manifest(entry: &Entry) -> bool
-    ensures { result ≡ is_put_of object.Manifest entry.now }
-{
-    match entry {
-        Entry::Put { name, .. } => match name {
-            ObjName::Manifest => true,
-            ObjName::Block(_) => false,
-        },
-        Entry::Deleted { .. } => false,
+    match name {
+        ObjName::Manifest => true,
+        ObjName::Block(_) => false,
     }
 }
 

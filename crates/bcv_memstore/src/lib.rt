@@ -1,8 +1,8 @@
 //! A store in memory that tells its log.
 //!
-//! It stands on the trait of `bcv_store`. The log is kept whole, with an index of the objects beside it, so that a request
-//! costs no more as the log grows. Each request meets the trait with the outcome that was planned for it, and no one else
-//! appends to the log.
+//! It stands on the trait of `bcv_store`. The log is kept whole, with an index of the objects and a count of the
+//! manifest's puts beside it, so that nothing walks the log. Each request meets the trait with the outcome that was
+//! planned for it, and no one else appends to the log.
 #![tactic(auto)]
 
 mod history;

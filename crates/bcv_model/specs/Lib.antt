@@ -8,5 +8,4 @@ pub mod MachineStart
 pub mod MachineState
 pub mod ReplyText
 pub mod Script
-pub mod Sizes
 pub mod Words

@@ -3,7 +3,6 @@ use Rattle.std.specs.Prelude.{◌≡◌, ℕ, zero, suc, Bool, true, false, ◌&
 use Rattle.bcv_base.specs.declared.id.Id16.{Id16}
 use Rattle.bcv_base.specs.Ids.{has_id}
 use Rattle.bcv_base.specs.declared.outcome.Outcome.{Outcome}
-use Rattle.bcv_base.specs.declared.outcome.Outcome.TheVariants as outcome
 use Rattle.bcv_model.specs.declared.ask.Ask.{Ask}
 use Rattle.bcv_model.specs.declared.ask.Ask.TheVariants as ask
 use Rattle.bcv_model.specs.declared.event.Act.{Act}
@@ -14,7 +13,7 @@ use Rattle.bcv_model.specs.declared.reply.Reply.{Reply}
 use Rattle.bcv_model.specs.declared.reply.Reply.TheVariants as reply
 use Rattle.bcv_model.specs.declared.reply.Said.{Said}
 use Rattle.bcv_model.specs.declared.spec.WorldSpec.{WorldSpec}
-use Rattle.bcv_model.specs.MachineState.{State, first_state, Here, IsHere, Up, Task, Kind, Reading, Holding, Polling, Creating, Making, Uploading, Copying, Removing, Cleaning, Resolving, task_at, without_task, with_up}
+use Rattle.bcv_model.specs.MachineState.{State, first_state, Here, IsHere, Task, Kind, Reading, Creating, Making, task_at, without_task, with_up}
 use Rattle.bcv_model.specs.MachineReading.{Begins, Reads, ReadSteps}
 use Rattle.bcv_model.specs.MachineStart.{Starts, publishes}
 use Rattle.bcv_model.specs.MachineGet.{Gets}

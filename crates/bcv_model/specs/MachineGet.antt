@@ -1,13 +1,13 @@
 -- The manifest's get of a publishing task.
-use Rattle.std.specs.Prelude.{◌≡◌, ℕ, ◌+◌, ◌-◌, ◌^◌, ◌<◌, ◌==◌, Bool, List, length, Option, Some, None, is_some, nat_lt, nat_le, if◌then◌else◌}
+use Rattle.std.specs.Prelude.{◌≡◌, ℕ, ◌+◌, ◌-◌, ◌^◌, ◌==◌, List, length, Option, Some, None, is_some, nat_lt, nat_le, if◌then◌else◌}
 use Rattle.bcv_base.specs.declared.outcome.Outcome.{Outcome}
 use Rattle.bcv_base.specs.declared.outcome.Outcome.TheVariants as outcome
 use Rattle.bcv_base.specs.Keyed.{keyed}
+use Rattle.bcv_base.specs.ManifestRules.{blocks_needed}
 use Rattle.bcv_base.specs.Version.{Database, Version, the_name}
 use Rattle.bcv_model.specs.declared.reply.Reply.{Reply}
 use Rattle.bcv_model.specs.declared.reply.Reply.TheVariants as reply
-use Rattle.bcv_model.specs.Sizes.{blocks_needed}
-use Rattle.bcv_model.specs.MachineState.{State, Here, Up, Task, Kind, Reading, Holding, Polling, Creating, Making, Uploading, Copying, Removing, Cleaning, Resolving, with_up, with_task, without_task, version_at}
+use Rattle.bcv_model.specs.MachineState.{State, Here, Task, Kind, Making, with_up, with_task, without_task, version_at}
 
 -- why a new database can't be published over a version, the first reason
 abbrev pub new_fault : ℕ → ℕ → List Database → List ℕ → ℕ → ℕ → Option Reply

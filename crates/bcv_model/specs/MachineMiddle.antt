@@ -1,10 +1,10 @@
 -- A step of a publishing task between the manifest's get and its put.
-use Rattle.std.specs.Prelude.{◌≡◌, ℕ, ◌+◌}
+use Rattle.std.specs.Prelude.{◌≡◌, ◌+◌}
 use Rattle.bcv_base.specs.declared.outcome.Outcome.{Outcome}
 use Rattle.bcv_base.specs.declared.outcome.Outcome.TheVariants as outcome
 use Rattle.bcv_model.specs.declared.reply.Reply.{Reply}
 use Rattle.bcv_model.specs.declared.reply.Reply.TheVariants as reply
-use Rattle.bcv_model.specs.MachineState.{State, Here, Up, Task, Kind, Reading, Holding, Polling, Creating, Making, Uploading, Copying, Removing, Cleaning, Resolving, with_up, with_task}
+use Rattle.bcv_model.specs.MachineState.{State, Here, Task, Kind, Making, with_up, with_task}
 
 -- a new database's task puts a block a step
 abbrev pub GoesOn : Here → Task → Kind → Outcome → Reply → State → Type 0

@@ -1,13 +1,13 @@
 -- The manifest's put of a publishing task, with the notes around it.
-use Rattle.std.specs.Prelude.{◌≡◌, ℕ, ◌+◌, List, [], ◌∷◌, ◌++◌, length, Option, Some, None}
+use Rattle.std.specs.Prelude.{◌≡◌, ℕ, ◌+◌, [], ◌∷◌, ◌++◌, length, Option, Some}
 use Rattle.bcv_base.specs.declared.id.Id16.{Id16}
 use Rattle.bcv_base.specs.declared.outcome.Outcome.{Outcome}
 use Rattle.bcv_base.specs.declared.outcome.Outcome.TheVariants as outcome
-use Rattle.bcv_base.specs.Version.{Database, Version}
+use Rattle.bcv_base.specs.Version.{Version}
 use Rattle.bcv_base.specs.Edits as edits
 use Rattle.bcv_model.specs.declared.reply.Reply.{Reply}
 use Rattle.bcv_model.specs.declared.reply.Reply.TheVariants as reply
-use Rattle.bcv_model.specs.MachineState.{State, Here, Client, Up, Task, Kind, Reading, Holding, Polling, Creating, Making, Uploading, Copying, Removing, Cleaning, Resolving, with_client, without_task, known_at, version_at}
+use Rattle.bcv_model.specs.MachineState.{State, Here, Client, Task, Kind, Creating, Making, with_client, without_task, known_at, version_at}
 
 -- the version that a task's put makes: a create makes the first, an edit makes one of the last
 abbrev pub Makes : State → Kind → Id16 → Version → Type 0

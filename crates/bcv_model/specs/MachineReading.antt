@@ -1,12 +1,12 @@
 -- Reading: begin, read, and the step of a read's task.
-use Rattle.std.specs.Prelude.{◌≡◌, ℕ, ◌≤◌, ◌<◌, false, List, [], ◌∷◌, ◌++◌, length, map, Option, Some, None, IsSome, ◌⊎◌}
-use Rattle.bcv_base.specs.Image.{Page, page_of}
+use Rattle.std.specs.Prelude.{◌≡◌, ℕ, ◌≤◌, ◌<◌, false, List, [], ◌∷◌, ◌++◌, length, map, Some, None, IsSome, ◌⊎◌}
+use Rattle.bcv_base.specs.Image.{page_of}
 use Rattle.bcv_base.specs.Version.{Database}
 use Rattle.bcv_model.specs.declared.reply.Reply.{Reply}
 use Rattle.bcv_model.specs.declared.reply.Reply.TheVariants as reply
 use Rattle.bcv_base.specs.declared.outcome.Outcome.{Outcome}
 use Rattle.bcv_base.specs.declared.outcome.Outcome.TheVariants as outcome
-use Rattle.bcv_model.specs.MachineState.{State, Here, Up, Txn, Task, View, Reading, view_of, database_at, with_up, IsLeastFree, txn_at, without_task, txn_image, is_at_hand, held_pairs}
+use Rattle.bcv_model.specs.MachineState.{State, Here, Txn, Task, View, Reading, view_of, database_at, with_up, IsLeastFree, txn_at, without_task, txn_image, is_at_hand, held_pairs}
 
 -- ---- begin
 

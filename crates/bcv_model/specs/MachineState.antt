@@ -1,5 +1,5 @@
 -- The machine's state: the container's versions, and what each client has.
-use Rattle.std.specs.Prelude.{◌≡◌, ℕ, ◌+◌, ◌-◌, ◌*◌, ◌/◌, ◌≤◌, ◌<◌, Bool, true, false, not, ◌||◌, ◌==◌, List, [], ◌∷◌, ◌++◌, length, map, replicate, Option, Some, None, is_some, nat_eq, slice_get, slice_set, if◌then◌else◌, option_and_then, find, filter}
+use Rattle.std.specs.Prelude.{◌≡◌, ℕ, ◌-◌, ◌/◌, ◌≤◌, ◌<◌, Bool, true, false, not, ◌||◌, ◌==◌, List, [], ◌++◌, length, map, replicate, Option, Some, None, is_some, slice_get, slice_set, if◌then◌else◌, option_and_then, find, filter}
 use Rattle.std.specs.List.{list_any, flat_map}
 use Rattle.std.specs.Option.{option_map, option_to_list}
 use Rattle.bcv_base.specs.declared.id.Id16.{Id16}

@@ -1,15 +1,14 @@
 -- The grammar of a script's lines.
-use Rattle.std.specs.Prelude.{ℕ, ◌+◌, ◌-◌, ◌*◌, ◌^◌, Bool, ◌&&◌, List, [], ◌∷◌, Option, Some, None, nat_le, if◌then◌else◌, codes}
+use Rattle.std.specs.Prelude.{ℕ, ◌-◌, ◌*◌, ◌^◌, Bool, List, [], ◌∷◌, Option, Some, None, nat_le, if◌then◌else◌, codes}
 use Rattle.std.specs.Str.{bytes_eq}
 use Rattle.bcv_base.specs.declared.outcome.Outcome.TheVariants as outcome
+use Rattle.bcv_base.specs.ManifestRules.{is_block_size, is_page_size}
 use Rattle.bcv_model.specs.declared.ask.Ask.{Ask}
 use Rattle.bcv_model.specs.declared.ask.Ask.TheVariants as ask
-use Rattle.bcv_model.specs.declared.event.Act.{Act}
 use Rattle.bcv_model.specs.declared.event.Act.TheVariants as act
 use Rattle.bcv_model.specs.declared.event.Event.{Event}
 use Rattle.bcv_model.specs.declared.event.Event.TheVariants as event
 use Rattle.bcv_model.specs.declared.spec.WorldSpec.{WorldSpec}
-use Rattle.bcv_model.specs.Sizes.{is_block_size, is_page_size}
 use Rattle.bcv_model.specs.Words.{◌>>=◌, words_of, number_in, name_of, pages_of_words}
 
 -- ---- the world line
@@ -23,7 +22,7 @@ block_size_of w = number_in 512 16777216 w >>= λ n. given (is_block_size n) n
 
 -- a page size that isn't above the block size
 abbrev pub page_size_of_word : ℕ → List ℕ → Option ℕ
-page_size_of_word block w = number_in 512 65536 w >>= λ n. given (is_page_size n && nat_le n block) n
+page_size_of_word block w = number_in 512 65536 w >>= λ n. given (is_page_size block n) n
 
 -- slots whose blocks take at most 2^30 bytes
 abbrev pub slots_of : ℕ → List ℕ → Option ℕ

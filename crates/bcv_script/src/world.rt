@@ -1,18 +1,10 @@
-ghost use Rattle.std.specs.Prelude.{◌≡◌, ◌≤◌, ◌==◌, IfSome};
-ghost use Rattle.std.specs.List.{list_any};
+ghost use Rattle.std.specs.Prelude.{◌≡◌, ◌≤◌, IfSome};
+ghost use Rattle.bcv_base.specs.ManifestRules.{is_block_size, is_page_size};
 ghost use Rattle.bcv_model.specs.Script.{world_of_words, block_size_of, page_size_of_word, slots_of};
-ghost use Rattle.bcv_model.specs.Sizes.{is_block_size, is_page_size};
 
 use crate::number::number;
 use crate::words::Words;
 use bcv_model::WorldSpec;
-
-const PAGE_SIZES: [u32; 8] = [512, 1024, 2048, 4096, 8192, 16384, 32768, 65536];
-
-const BLOCK_SIZES: [u32; 16] = [
-    512, 1024, 2048, 4096, 8192, 16384, 32768, 65536, 131072, 262144, 524288, 1048576, 2097152,
-    4194304, 8388608, 16777216,
-];
 
 // The world that the words of a world line fix.
 pub fn world(words: &mut Words) -> Option<WorldSpec>
@@ -59,7 +51,7 @@ fn page_size(block: u32, word: &[u8]) -> Option<u32>
     ensures { result ≡ page_size_of_word block word.now }
 {
     let size = number(word, 512, 65536)? as u32;
-    if is_page_size(size) && size <= block {
+    if is_page_size(block, size) {
         Some(size)
     } else {
         None
@@ -78,21 +70,14 @@ fn slot_count(block: u32, word: &[u8]) -> Option<u16>
     }
 }
 
-// Whether the number is one of these.
-fn is_one_of(n: u32, sizes: &[u32]) -> bool
-    ensures { result ≡ list_any (λ size. n == size) sizes.now }
+fn is_block_size(size: u32) -> bool
+    ensures { result ≡ is_block_size size }
 {
-    sizes.iter().any(|size| n == *size)
+    512 <= size && size <= 16_777_216 && size.is_power_of_two()
 }
 
-fn is_block_size(n: u32) -> bool
-    ensures { result ≡ is_block_size n }
+fn is_page_size(block: u32, size: u32) -> bool
+    ensures { result ≡ is_page_size block size }
 {
-    is_one_of(n, &BLOCK_SIZES)
-}
-
-fn is_page_size(n: u32) -> bool
-    ensures { result ≡ is_page_size n }
-{
-    is_one_of(n, &PAGE_SIZES)
+    512 <= size && size <= 65_536 && size.is_power_of_two() && size <= block
 }

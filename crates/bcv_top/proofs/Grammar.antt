@@ -13,7 +13,7 @@ use Rattle.bcv_model.specs.declared.event.Act.TheVariants as act
 use Rattle.bcv_model.specs.declared.event.Event.{Event}
 use Rattle.bcv_model.specs.declared.event.Event.TheVariants as event
 use Rattle.bcv_model.specs.declared.spec.WorldSpec.{WorldSpec}
-use Rattle.bcv_model.specs.Sizes.{is_block_size, is_page_size}
+use Rattle.bcv_base.specs.ManifestRules.{is_block_size, is_page_size}
 use Rattle.bcv_model.specs.Words.{◌>>=◌, words_of, number_in, name_of, is_number, value_of, unhexed, padded, page_from, page_of_word, pages_of_words}
 use Rattle.bcv_model.specs.Script.{given, block_size_of, page_size_of_word, slots_of, world_of_words, world_of, create_of, new_of, begin_of, read_of, step_of, ask_of, event_of_words, event_of}
 use Rattle.bcv_world.specs.FirstPath.{is_world}
@@ -40,23 +40,17 @@ number_in_range low high w n e = in_range (is_number w) low (value_of w) high n 
 
 -- ---- the world line
 
-block_bound : (w : List ℕ) (b : ℕ) → block_size_of w ≡ Some b → b ≤ 16777216
-block_bound w b e =
+block_ok : (w : List ℕ) (b : ℕ) → block_size_of w ≡ Some b → is_block_size b ≡ true
+block_ok w b e =
     let n = bind_some (number_in 512 16777216 w) (λ (n : ℕ). given (is_block_size n) n) b e in
     let g = given_some (is_block_size n.0) n.0 b n.2 in
-    let r = number_in_range 512 16777216 w n.0 n.1 in
-    omega (arith, g.1, r.1)
+    subst (λ (x : ℕ). is_block_size x ≡ true) g.1 g.0
 
-page_test : (t : Bool) (n block : ℕ) → (t && nat_le n block) ≡ true → n ≤ block
-page_test t n block e = grind (arith, common_steps)
-
-page_bound : (block : ℕ) (w : List ℕ) (p : ℕ) → page_size_of_word block w ≡ Some p → (512 ≤ p) × (p ≤ block)
-page_bound block w p e =
-    let n = bind_some (number_in 512 65536 w) (λ (n : ℕ). given (is_page_size n && nat_le n block) n) p e in
-    let g = given_some (is_page_size n.0 && nat_le n.0 block) n.0 p n.2 in
-    let r = number_in_range 512 65536 w n.0 n.1 in
-    let b = page_test (is_page_size n.0) n.0 block g.0 in
-    (omega (arith, g.1, r.0), omega (arith, g.1, b))
+page_ok : (block : ℕ) (w : List ℕ) (p : ℕ) → page_size_of_word block w ≡ Some p → is_page_size block p ≡ true
+page_ok block w p e =
+    let n = bind_some (number_in 512 65536 w) (λ (n : ℕ). given (is_page_size block n) n) p e in
+    let g = given_some (is_page_size block n.0) n.0 p n.2 in
+    subst (λ (x : ℕ). is_page_size block x ≡ true) g.1 g.0
 
 abbrev after_retention : ℕ → ℕ → ℕ → List ℕ → ℕ → Option WorldSpec
 after_retention c b p slots r = slots_of b slots >>= λ s. Some (record { clients = c; block = b; page = p; retention = r; slots = s })
@@ -76,9 +70,9 @@ after_word clients block page retention slots word = number_in 1 16 clients >>= 
 abbrev spec_with : ℕ → ℕ → ℕ → ℕ → ℕ → WorldSpec
 spec_with c b p r s = record { clients = c; block = b; page = p; retention = r; slots = s }
 
-is_spec : (c b p r s : ℕ) (spec : WorldSpec) → spec_with c b p r s ≡ spec → b ≤ 16777216 → 512 ≤ p → p ≤ b → IsSpec spec
+is_spec : (c b p r s : ℕ) (spec : WorldSpec) → spec_with c b p r s ≡ spec → is_block_size b ≡ true → is_page_size b p ≡ true → r ≤ 2 ^ 64 - 1 → IsSpec spec
 is_spec c b p r s spec e x y z =
-    let here : IsSpec (spec_with c b p r s) = record { page = omega arith; page_fits = z; block = omega arith } in
+    let here : IsSpec (spec_with c b p r s) = record { block = x; page = y; retention = omega arith } in
     subst IsSpec e here
 
 words_spec : (words : List (List ℕ)) (spec : WorldSpec) → world_of_words words ≡ Some spec → IsSpec spec
@@ -96,8 +90,7 @@ words_spec (word ∷ clients ∷ block ∷ page ∷ retention ∷ slots ∷ []) 
     let p = bind_some (page_size_of_word b.0 page) (after_page c.0 b.0 retention slots) spec b.2 in
     let r = bind_some (number_in 0 (2 ^ 64 - 1) retention) (after_retention c.0 b.0 p.0 slots) spec p.2 in
     let s = bind_some (slots_of b.0 slots) (λ (s : ℕ). Some (spec_with c.0 b.0 p.0 r.0 s)) spec r.2 in
-    let size = page_bound b.0 page p.0 p.1 in
-    is_spec c.0 b.0 p.0 r.0 s.0 spec (some_is (spec_with c.0 b.0 p.0 r.0 s.0) spec s.2) (block_bound block b.0 b.1) size.0 size.1
+    is_spec c.0 b.0 p.0 r.0 s.0 spec (some_is (spec_with c.0 b.0 p.0 r.0 s.0) spec s.2) (block_ok block b.0 b.1) (page_ok b.0 page p.0 p.1) (number_in_range 0 (2 ^ 64 - 1) retention r.0 r.1).1
 
 pub world_spec : (line : List ℕ) (spec : WorldSpec) → world_of line ≡ Some spec → IsSpec spec
 unfolding world_of
@@ -121,10 +114,13 @@ if_kept spec false a b p q = q
 padded_length : (size : ℕ) (bytes : List ℕ) → length bytes ≤ size → length (padded size bytes) ≡ size
 padded_length size bytes h = omega (arith, length-append bytes (replicate (size - length bytes) 0), length-replicate {A = ℕ} (size - length bytes) 0)
 
+short_of : (t : Bool) (n most : ℕ) → (t && nat_le n most) ≡ true → n ≤ most
+short_of t n most e = grind (arith, common_steps)
+
 from_length : (size : ℕ) (bytes page : List ℕ) → page_from size bytes ≡ Some page → length page ≡ size
 from_length size bytes page e =
     let g = given_some (nat_le 1 (length bytes) && nat_le (length bytes) size) (padded size bytes) page e in
-    let small = page_test (nat_le 1 (length bytes)) (length bytes) size g.0 in
+    let small = short_of (nat_le 1 (length bytes)) (length bytes) size g.0 in
     subst (λ (l : List ℕ). length l ≡ size) g.1 (padded_length size bytes small)
 
 word_length : (size : ℕ) (t : Bool) (o : Option (List ℕ)) (page : List ℕ) → (o ≡ Some page → length page ≡ size) → (if t then Some (replicate size 0) else o) ≡ Some page → length page ≡ size

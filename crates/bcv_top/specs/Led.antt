@@ -1,6 +1,6 @@
 -- The world that a script's lines lead to, and what one more line does to it.
-use Rattle.std.specs.Prelude.{◌≡◌, ℕ, ◌^◌, ◌<◌, ◌⊎◌, true, List, [], ◌∷◌, ◌++◌, map, take, Option, Some, None, Result, Ok, Err}
-use Rattle.std.specs.List.{flat_map}
+use Rattle.std.specs.Prelude.{◌≡◌, ℕ, ◌^◌, ◌<◌, ◌⊎◌, true, List, [], ◌∷◌, ◌++◌, take, Option, Some, None, Result, Ok, Err}
+use Rattle.bcv_model.specs.declared.reply.Said.{Said}
 use Rattle.bcv_model.specs.Machine.{History}
 use Rattle.bcv_model.specs.MachineState.{State}
 use Rattle.bcv_model.specs.ReplyText.{said_text}
@@ -14,56 +14,63 @@ use Rattle.bcv_top.specs.declared.output.Wrote.{Wrote}
 use Rattle.bcv_top.specs.declared.output.Wrote.TheVariants as wrote
 use Rattle.bcv_top.specs.declared.status.Status.{Status}
 use Rattle.bcv_top.specs.declared.status.Status.TheVariants as status
-use Rattle.bcv_top.specs.Replay.{Fixes, StopsAt, IsNoWorld, IsNoEvent}
+use Rattle.bcv_top.specs.Replay.{Fixes, Runs, StopsAt, IsNoWorld, IsNoEvent, replies_text}
 
--- the first line fixed this world, and the lines after it, as events, led it to what was written
-pub record LedBy (first : List ℕ) (w : World) (lines : List (List ℕ)) (written : List ℕ) : Type 0 where
+-- the first line fixed this world, and the lines after it, as events, led it to these replies
+pub record LedBy (first : List ℕ) (w : World) (lines : List (List ℕ)) (replies : List Said) : Type 0 where
   pub h : History
   pub a : State
   pub fixes : Fixes first w.spec
   pub good : IsGood w
-  pub mirrors : Mirrors w h a
-  pub events : map (event_of w.spec) lines ≡ map Some h.events
-  pub text : written ≡ flat_map said_text h.saids
+  pub runs : Runs w h a lines replies
 
 -- no line leads to no world
-abbrev pub Led : Option World → List (List ℕ) → List ℕ → Type 0
-Led None lines written = (lines ≡ []) × (written ≡ [])
-Led (Some w) lines written = (first : List ℕ) × (more : List (List ℕ)) × (lines ≡ first ∷ more) × LedBy first w more written
+abbrev pub Led : Option World → List (List ℕ) → List Said → Type 0
+Led None lines replies = (lines ≡ []) × (replies ≡ [])
+Led (Some w) lines replies = (first : List ℕ) × (more : List (List ℕ)) × (lines ≡ first ∷ more) × LedBy first w more replies
 
 -- a world, where there is one, takes a further line
 abbrev pub IsReady : Option World → Type 0
 IsReady None = Unit {0}
 IsReady (Some w) = IsGood w × (is_world w.spec ≡ true) × (w.applied < 2 ^ 62)
 
--- one more line leads from one world to another one, with this text
-abbrev pub LeadsOn : Option World → Option World → List ℕ → List ℕ → Type 0
-LeadsOn old new line text = (lines : List (List ℕ)) (written : List ℕ) → Led old lines written → Led new (lines ++ line ∷ []) (written ++ text)
+-- the replies to a line: none to the first one, one to each other one
+abbrev pub listed : Option Said → List Said
+listed None = []
+listed (Some said) = said ∷ []
+
+-- one more line leads from one world to another one, with this reply
+abbrev pub LeadsOn : Option World → Option World → List ℕ → Option Said → Type 0
+LeadsOn old new line said = (lines : List (List ℕ)) (replies : List Said) → Led old lines replies → Led new (lines ++ line ∷ []) (replies ++ listed said)
+
+-- one more line leads on, and this is the text of its reply
+abbrev pub Tells : Option World → Option World → List ℕ → List ℕ → Type 0
+Tells old new line text = (said : Option Said) × (text ≡ replies_text (listed said)) × LeadsOn old new line said
 
 -- the line can't stand after the lines that led to this world
 abbrev pub CannotStand : Option World → List ℕ → Type 0
-CannotStand old line = (lines : List (List ℕ)) (written : List ℕ) → Led old lines written → StopsAt lines written line
+CannotStand old line = (lines : List (List ℕ)) (replies : List Said) → Led old lines replies → StopsAt lines old replies line
 
 -- what a line comes to: text, a bad line exactly where it can't stand, or want of memory
 abbrev pub Steps : Option World → Option World → List ℕ → List ℕ → Result (Unit {0}) LineFault → Type 0
-Steps old new line text (Ok _) = LeadsOn old new line text
-Steps old new line text (Err fault.BadLine) = CannotStand old line
+Steps old new line text (Ok _) = Tells old new line text
+Steps old new line text (Err fault.BadLine) = (new ≡ old) × CannotStand old line
 Steps old new line text (Err fault.NoMemory) = Unit {0}
 
--- some front of the text of a line was written, or nothing at all
+-- some front of the text of a line's reply was written, or nothing at all
 abbrev pub IsCut : Option World → Option World → List ℕ → List ℕ → Type 0
-IsCut old new line written = (written ≡ []) ⊎ ((text : List ℕ) × (k : ℕ) × (written ≡ take k text) × LeadsOn old new line text)
+IsCut old new line written = (written ≡ []) ⊎ ((text : List ℕ) × (k : ℕ) × (written ≡ take k text) × Tells old new line text)
 
--- how the line of a number ends the replay, where it does
+-- how the line of a number ends the replay, where it does: it can't stand, or its reply was written in part
 abbrev pub Ends : Status → ℕ → Option World → Option World → List ℕ → List ℕ → Type 0
-Ends (status.BadScript at place) number old new line written = (at ≡ number) × (place ≡ 0) × (written ≡ []) × CannotStand old line
-Ends status.WriteFault number old new line written = IsCut old new line written
+Ends (status.BadScript at place) number old new line written = (at ≡ number) × (place ≡ 0) × (written ≡ []) × (new ≡ old) × CannotStand old line
+Ends status.WriteFault number old new line written = (said : Said) × (k : ℕ) × (written ≡ take k (said_text said)) × LeadsOn old new line (Some said)
 Ends status.NoMemory number old new line written = IsCut old new line written
 Ends _ number old new line written = ⊥
 
 -- a line is applied and its reply written, or ends the replay
 abbrev pub Says : Result (Unit {0}) Status → ℕ → Option World → Option World → List ℕ → List ℕ → Type 0
-Says (Ok _) number old new line written = LeadsOn old new line written
+Says (Ok _) number old new line written = Tells old new line written
 Says (Err s) number old new line written = Ends s number old new line written
 
 -- the world that a first line fixes, in its first state, or a bad line where it fixes none
@@ -75,8 +82,10 @@ First (Err fault.NoMemory) line = Unit {0}
 -- what a further line comes to in a world
 abbrev pub Answers : Result (Unit {0}) LineFault → World → World → List ℕ → List ℕ → Type 0
 Answers (Ok _) old new line text =
-    (first : List ℕ) (lines : List (List ℕ)) (written : List ℕ) → LedBy first old lines written → LedBy first new (lines ++ line ∷ []) (written ++ text)
-Answers (Err fault.BadLine) old new line text = (h : History) (a : State) → Mirrors old h a → IsNoEvent old.spec h (event_of old.spec line)
+    (said : Said)
+    × (text ≡ said_text said)
+    × ((first : List ℕ) (lines : List (List ℕ)) (replies : List Said) → LedBy first old lines replies → LedBy first new (lines ++ line ∷ []) (replies ++ said ∷ []))
+Answers (Err fault.BadLine) old new line text = (new ≡ old) × ((h : History) (a : State) → Mirrors old h a → IsNoEvent old.spec h (event_of old.spec line))
 Answers (Err fault.NoMemory) old new line text = Unit {0}
 
 -- how an input that has ended after whole lines ends the replay
@@ -86,7 +95,7 @@ end_of (Some w) = status.Done
 
 -- the last line ends the replay
 abbrev pub SaysLast : Status → ℕ → Option World → Option World → List ℕ → List ℕ → Type 0
-SaysLast status.Done number old new line written = LeadsOn old new line written
+SaysLast status.Done number old new line written = Tells old new line written
 SaysLast s number old new line written = Ends s number old new line written
 
 -- how a line of a number that gave nothing ends the replay
@@ -99,3 +108,8 @@ abbrev pub writing_end_of : Wrote → Result (Unit {0}) Status
 writing_end_of wrote.All = Ok tt
 writing_end_of wrote.Failed = Err status.WriteFault
 writing_end_of wrote.NoMemory = Err status.NoMemory
+
+-- the world that is handed back: none where memory ran out, since that one may be half changed
+abbrev pub kept_at : Status → Option World → Option World
+kept_at status.NoMemory world = None
+kept_at _ world = world

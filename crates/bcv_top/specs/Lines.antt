@@ -59,3 +59,7 @@ abbrev pub AreAll : List ℕ → List (List ℕ) → Type 0
 AreAll bytes lines =
     Splits bytes lines []
     ⊎ ((front : List (List ℕ)) × (line : List ℕ) × (lines ≡ front ++ line ∷ []) × Splits bytes front line × IsOpen front line × (0 < length line))
+
+-- the bytes begin with these lines, or they are all that an input which has ended holds
+abbrev pub BeginsWith : Type 0 → List ℕ → List (List ℕ) → Type 0
+BeginsWith ended bytes lines = ((rest : List ℕ) × Splits bytes lines rest) ⊎ (ended × AreAll bytes lines)

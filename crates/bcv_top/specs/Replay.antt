@@ -1,30 +1,43 @@
 -- What a replay makes of the lines of a script.
 use Rattle.std.specs.Prelude.{◌≡◌, ℕ, true, false, List, [], ◌∷◌, map, Option, Some, None}
 use Rattle.std.specs.List.{flat_map}
+use Rattle.bcv_base.specs.Versions.{HasVersions}
+use Rattle.bcv_memstore.specs.Told.{log_of}
 use Rattle.bcv_model.specs.declared.event.Event.{Event}
+use Rattle.bcv_model.specs.declared.reply.Said.{Said}
 use Rattle.bcv_model.specs.declared.spec.WorldSpec.{WorldSpec}
 use Rattle.bcv_model.specs.Script.{world_of, event_of}
 use Rattle.bcv_model.specs.ReplyText.{said_text}
 use Rattle.bcv_model.specs.MachineState.{State}
 use Rattle.bcv_model.specs.Machine.{History, Accepts}
+use Rattle.bcv_world.specs.declared.world.World.{World}
 use Rattle.bcv_world.specs.FirstPath.{is_world, stands, all_stand}
+use Rattle.bcv_world.specs.Stands.{Mirrors}
 
--- lines are these events, which may stand there; the machine accepts what was said of them, and its text was written
-pub record Runs (spec : WorldSpec) (h : History) (a : State) (lines : List (List ℕ)) (written : List ℕ) : Type 0 where
-  pub events : map (event_of spec) lines ≡ map Some h.events
-  pub stand : all_stand spec [] [] h.events h.saids ≡ true
-  pub accepts : Accepts spec h a
-  pub text : written ≡ flat_map said_text h.saids
+-- the lines of text that replies are written as
+abbrev pub replies_text : List Said → List ℕ
+replies_text replies = flat_map said_text replies
+
+-- lines are these events, which may stand there; the machine accepts these replies to them, the world stands for the state that
+-- it reaches, and the machine's versions are exactly those of the store's log
+pub record Runs (w : World) (h : History) (a : State) (lines : List (List ℕ)) (replies : List Said) : Type 0 where
+  pub events : map (event_of w.spec) lines ≡ map Some h.events
+  pub saids : h.saids ≡ replies
+  pub stand : all_stand w.spec [] [] h.events h.saids ≡ true
+  pub accepts : Accepts w.spec h a
+  pub mirrors : Mirrors w h a
+  pub versions : HasVersions (log_of w.store) a.versions
 
 -- a line fixes a world of the kind that is built
 pub record Fixes (line : List ℕ) (spec : WorldSpec) : Type 0 where
   pub read : world_of line ≡ Some spec
   pub built : is_world spec ≡ true
 
--- a script's lines lead to what was written
-abbrev pub Leads : List (List ℕ) → List ℕ → Type 0
-Leads [] written = written ≡ []
-Leads (first ∷ lines) written = (spec : WorldSpec) × (h : History) × (a : State) × Fixes first spec × Runs spec h a lines written
+-- a script's lines lead to a world, with these replies; no line leads to no world, with none
+abbrev pub Leads : List (List ℕ) → Option World → List Said → Type 0
+Leads [] None replies = replies ≡ []
+Leads (first ∷ lines) (Some w) replies = (h : History) × (a : State) × Fixes first w.spec × Runs w h a lines replies
+Leads _ _ replies = ⊥
 
 abbrev pub IsNoWorld : Option WorldSpec → Type 0
 IsNoWorld None = Unit {0}
@@ -34,8 +47,9 @@ abbrev pub IsNoEvent : WorldSpec → History → Option Event → Type 0
 IsNoEvent spec h None = Unit {0}
 IsNoEvent spec h (Some e) = stands spec h.events h.saids e ≡ false
 
--- a script's lines lead to what was written, and the line after them can't stand there
-abbrev pub StopsAt : List (List ℕ) → List ℕ → List ℕ → Type 0
-StopsAt [] written line = (written ≡ []) × IsNoWorld (world_of line)
-StopsAt (first ∷ lines) written line =
-    (spec : WorldSpec) × (h : History) × (a : State) × Fixes first spec × Runs spec h a lines written × IsNoEvent spec h (event_of spec line)
+-- a script's lines lead to a world, with these replies, and the line after them can't stand there
+abbrev pub StopsAt : List (List ℕ) → Option World → List Said → List ℕ → Type 0
+StopsAt [] None replies line = (replies ≡ []) × IsNoWorld (world_of line)
+StopsAt (first ∷ lines) (Some w) replies line =
+    (h : History) × (a : State) × Fixes first w.spec × Runs w h a lines replies × IsNoEvent w.spec h (event_of w.spec line)
+StopsAt _ _ replies line = ⊥

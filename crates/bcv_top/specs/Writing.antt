@@ -1,9 +1,9 @@
 -- What was written of a text.
-use Rattle.std.specs.Prelude.{◌≡◌, ℕ, List, take}
+use Rattle.std.specs.Prelude.{◌≡◌, ℕ, ◌<◌, List, length, take}
 use Rattle.bcv_top.specs.declared.output.Wrote.{Wrote}
 use Rattle.bcv_top.specs.declared.output.Wrote.TheVariants as wrote
 
--- all of it, or some front
+-- all of it, or some front of a text that isn't empty
 abbrev pub Writes : Wrote → List ℕ → List ℕ → Type 0
 Writes wrote.All text written = written ≡ text
-Writes _ text written = (k : ℕ) × (written ≡ take k text)
+Writes _ text written = (0 < length text) × ((k : ℕ) × (written ≡ take k text))

@@ -2,12 +2,14 @@
 //!
 //! It stands on `bcv_world`, which applies events and stands for the machine's state, and on `bcv_script`, which reads
 //! lines and writes replies. It promises, for every source and sink and in whatever pieces they move bytes: at each
-//! status, what was written is the text of replies that the machine accepts for the lines that were read, and each
-//! status other than want of memory comes only where its cause is.
+//! status, what was written is the text of replies that the machine accepts for the lines that were read, the world that is
+//! handed back stands for the state that the machine reaches, and each status other than want of memory comes only where
+//! its cause is.
 #![tactic(auto)]
 
-ghost use Rattle.std.specs.Prelude.{◌≡◌, ℕ, ◌↔◌, false, List, map, string_bytes};
+ghost use Rattle.std.specs.Prelude.{◌≡◌, ℕ, ◌↔◌, false, List, map, Option, string_bytes};
 ghost use Rattle.std.specs.Io.KnownBytes.{Appends, Consumes, IsAtEnd};
+ghost use Rattle.bcv_world.specs.declared.world.World.{World};
 ghost use Rattle.bcv_top.specs.Headline.{Replays, HasCauses, is_replay};
 
 mod chunk;
@@ -19,6 +21,7 @@ mod status;
 
 use bcv_base::{Sink, Source};
 pub use first_read::first_read_is_a_run;
+pub use replay::{Replayed, replay_top};
 pub use status::Status;
 use std::alloc::Global;
 
@@ -31,13 +34,13 @@ pub fn bcv_top<I: Source, O: Sink>(
     out: &mut O,
 ) -> Status
     ensures words { (result ≡ Status.BadWords) ↔ (is_replay (map string_bytes words.now) ≡ false) }
-    ensures replays { (taken : List ℕ) × (written : List ℕ) × Consumes (I.left input.old) (I.left input.new) taken × Appends (O.given out.old) (O.given out.new) written × Replays result taken (IsAtEnd (I.left input.new)) written }
+    ensures replays { (world : Option World) × (taken : List ℕ) × (written : List ℕ) × Consumes (I.left input.old) (I.left input.new) taken × Appends (O.given out.old) (O.given out.new) written × Replays result world taken (IsAtEnd (I.left input.new)) written }
     ensures causes { HasCauses (I.faults input.old) (I.faults input.new) (O.faults out.old) (O.faults out.new) result }
 {
     if !is_replay(words) {
         return Status::BadWords;
     }
-    replay::run(alloc, input, out)
+    replay_top(alloc, input, out).status
 }
 
 // Whether the one word is `replay`.

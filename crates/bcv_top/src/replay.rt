@@ -2,7 +2,7 @@ ghost use Rattle.std.specs.Prelude.{◌≡◌, ◌≢◌, ℕ, ◌^◌, ◌<◌,
 ghost use Rattle.std.specs.Io.KnownBytes.{Appends, Consumes, IsAtEnd};
 ghost use Rattle.bcv_base.specs.Faults.{Rose};
 ghost use Rattle.bcv_top.specs.Headline.{Replays, HasCauses};
-ghost use Rattle.bcv_top.specs.Led.{IsReady, Steps, Says, SaysLast, First, Answers, end_of, stopped_by, writing_end_of};
+ghost use Rattle.bcv_top.specs.Led.{IsReady, Steps, Says, SaysLast, First, Answers, end_of, stopped_by, writing_end_of, kept_at};
 ghost use Rattle.bcv_world.specs.FirstPath.{is_world};
 ghost use Rattle.bcv_world.specs.Stands.{IsGood};
 
@@ -14,15 +14,40 @@ use bcv_script::{LineFault, read_line, read_world, write_reply};
 use bcv_world::World;
 use std::alloc::Global;
 
-// Replays the script of the input: line by line, each reply is written before more of the input is asked for.
-pub fn run<I: Source, O: Sink>(alloc: Global, input: &mut I, out: &mut O) -> Status
-    ensures words { result ≢ Status.BadWords }
-    ensures replays { (taken : List ℕ) × (written : List ℕ) × Consumes (I.left input.old) (I.left input.new) taken × Appends (O.given out.old) (O.given out.new) written × Replays result taken (IsAtEnd (I.left input.new)) written }
-    ensures causes { HasCauses (I.faults input.old) (I.faults input.new) (O.faults out.old) (O.faults out.new) result }
+/// How a replay ended, and the world that it ran: it stands for the state that the machine reaches by the lines that were
+/// applied. At a write fault the line whose reply met the fault is one of them. There is no world where no first line fixed
+/// one, nor where memory ran out.
+#[derive(Drop)]
+pub struct Replayed {
+    pub status: Status,
+    pub world: Option<World>,
+}
+
+impl Replayed {
+    // The end at a status. Where memory ran out in the midst of an event, the world stands for no state.
+    fn at(status: Status, world: Option<World>) -> Replayed
+        ensures status { result.status ≡ status }
+        ensures world { result.world ≡ kept_at status world }
+    {
+        match status {
+            Status::NoMemory => Replayed {
+                status,
+                world: None,
+            },
+            _ => Replayed { status, world },
+        }
+    }
+}
+
+/// Replays the script of the input: line by line, each reply is written before more of the input is asked for.
+pub fn replay_top<I: Source, O: Sink>(alloc: Global, input: &mut I, out: &mut O) -> Replayed
+    ensures words { result.status ≢ Status.BadWords }
+    ensures replays { (taken : List ℕ) × (written : List ℕ) × Consumes (I.left input.old) (I.left input.new) taken × Appends (O.given out.old) (O.given out.new) written × Replays result.status result.world taken (IsAtEnd (I.left input.new)) written }
+    ensures causes { HasCauses (I.faults input.old) (I.faults input.new) (O.faults out.old) (O.faults out.new) result.status }
 {
     let mut reader = match Lines::new(alloc) {
         Ok(reader) => reader,
-        Err(_) => return Status::NoMemory,
+        Err(_) => return Replayed::at(Status::NoMemory, None),
     };
     let mut world = None;
     let mut number = 0;
@@ -33,17 +58,18 @@ pub fn run<I: Source, O: Sink>(alloc: Global, input: &mut I, out: &mut O) -> Sta
                 let line = reader.line.as_slice();
                 match say(alloc, &mut world, number, line, out) {
                     Ok(()) => {}
-                    Err(status) => return status,
+                    Err(status) => return Replayed::at(status, world),
                 }
             }
             Next::Last => {
                 let last = reader.line.as_slice();
-                return say_last(alloc, &mut world, number + 1, last, out);
+                let status = say_last(alloc, &mut world, number + 1, last, out);
+                return Replayed::at(status, world);
             }
-            Next::End => return ended(&world),
-            Next::TooLong => return Status::TooLong,
-            Next::ReadFault => return Status::ReadFault,
-            Next::NoMemory => return Status::NoMemory,
+            Next::End => return Replayed::at(ended(&world), world),
+            Next::TooLong => return Replayed::at(Status::TooLong, world),
+            Next::ReadFault => return Replayed::at(Status::ReadFault, world),
+            Next::NoMemory => return Replayed::at(Status::NoMemory, world),
         }
     }
 }

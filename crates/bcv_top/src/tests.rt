@@ -45,6 +45,37 @@ fn replayed(
     Ok(Ran { status, text })
 }
 
+// How many events the world took that a replay hands back; the sink fails at these calls.
+fn applied(alloc: Global, script: &[u8], gives: &[u64]) -> Result<Option<u64>, AllocError> {
+    let mut bytes = Vec::new(alloc);
+    bytes.extend_from_slice(script)?;
+    let mut failing = Vec::new(alloc);
+    failing.extend_from_slice(gives)?;
+    let mut input = MemSource::new(bytes, 65536, Vec::new(alloc));
+    let mut output = MemSink::new(alloc, failing);
+    match replay_top(alloc, &mut input, &mut output).world {
+        Some(world) => Ok(Some(world.applied())),
+        None => Ok(None),
+    }
+}
+
+#[test]
+fn worlds(rt: HostRuntime) -> Result<(), Fail> {
+    for (script, gives, count) in [
+        ("", [0u64], None),
+        ("world 2 1024 512 100 2\n1 create\n", [0], None),
+        ("world 1 1024 512 100 2\n", [0], Some(0)),
+        ("world 1 1024 512 100 2\n1 create\n1 step 1", [0], Some(2)),
+        ("world 1 1024 512 100 2\n1 create\n1 create\n", [0], Some(1)),
+        (FIRST_READ, [0], Some(10)),
+        (FIRST_READ, [2], Some(2)),
+    ] {
+        let taken = applied(rt.alloc(), script.as_bytes(), &gives)?;
+        assert_eq!(rt; taken, count, "{script}");
+    }
+    Ok(())
+}
+
 #[test]
 fn first_read(rt: HostRuntime) -> Result<(), Fail> {
     let script = FIRST_READ.as_bytes();

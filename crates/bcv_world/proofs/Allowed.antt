@@ -8,7 +8,9 @@ use Rattle.bcv_model.specs.declared.event.Event.{Event}
 use Rattle.bcv_model.specs.declared.event.Event.TheVariants as event
 use Rattle.bcv_world.specs.declared.world.World.{World}
 use Rattle.bcv_world.specs.FirstPath.{ask_stands, made_names, begun_names, runs_after}
-use Rattle.bcv_world.specs.Stands.{allows_ask, has_database, has_name, db_name, is_nil, making}
+use Rattle.bcv_base.specs.ManifestRules.{db_name}
+use Rattle.bcv_world.specs.Known.{dbs_of}
+use Rattle.bcv_world.specs.Stands.{allows_ask, has_database, has_name, is_nil, making}
 use Rattle.bcv_base.specs.Keyed.{keyed}
 use Rattle.bcv_world.specs.declared.task.Task.{Task}
 use Rattle.bcv_world.proofs.HistoryLaws.{and_parts}
@@ -21,7 +23,7 @@ idle_is false None e = refl
 idle_is false (Some t) e = refl
 
 -- nothing happened yet: no container, and no task
-nothing_yet : (w : World) (runs : Bool) (q : Ask) → (w.client.number == 0) ≡ true → is_none w.client.task ≡ true → allows_ask w q ≡ ask_stands w.spec [] runs q
+nothing_yet : (w : World) (runs : Bool) (q : Ask) → is_none w.client.latest ≡ true → is_none w.client.task ≡ true → allows_ask w q ≡ ask_stands w.spec [] runs q
 nothing_yet w runs (ask.Create block retention) z n = ap (λ (b : Bool). b && is_none w.client.task) z ∙ n
 nothing_yet w runs (ask.Step t) z n = ap (λ (b : Bool). b && (t == 1)) (some_not w.client.task n)
   where
@@ -31,7 +33,7 @@ nothing_yet w runs (ask.Step t) z n = ap (λ (b : Bool). b && (t == 1)) (some_no
 nothing_yet w runs (ask.Begin db) z n = ap (λ (b : Bool). (not b && is_none w.client.task) && nat_lt w.begun 64) z
 nothing_yet w runs (ask.Read txn page) z n = ap (λ (b : Bool). not b && is_none w.client.task) z
 nothing_yet w runs (ask.NewDb db page_size pages) z n =
-    ap (λ (b : Bool). (((not b && is_none w.client.task) && nat_le (length pages) (w.spec.block / w.spec.page)) && not (has_database w.client db)) && nat_lt (length w.client.dbs.items) 1024) z
+    ap (λ (b : Bool). (((not b && is_none w.client.task) && nat_le (length pages) (w.spec.block / w.spec.page)) && not (has_database w.client db)) && nat_lt (length (dbs_of w.client)) 1024) z
 nothing_yet w runs _ z n = refl
 
 -- the tests of a new database, behind the one whether a task runs
@@ -47,25 +49,25 @@ new_alike runs small has None names db dbs made r n l =
     or_false false = refl
 new_alike runs small has (Some t) names db dbs made r n l = ap (λ (b : Bool). (((not b && small) && not (has_name db names)) && nat_lt made 1024)) (sym r)
 
-going_on : (w : World) (e : Event) (es : List Event) (runs : Bool) (q : Ask) → ((w.client.number == 0) && is_none w.client.task) ≡ false → runs ≡ is_some w.client.task → length (begun_names (e ∷ es)) ≡ w.begun
-    → length (made_names (e ∷ es)) ≡ length w.client.dbs.items + length (making w.client.task)
-    → ((name : List ℕ) → has_name name (made_names (e ∷ es)) ≡ (is_some (keyed db_name name w.client.dbs.items) || has_name name (making w.client.task)))
+going_on : (w : World) (e : Event) (es : List Event) (runs : Bool) (q : Ask) → (is_none w.client.latest && is_none w.client.task) ≡ false → runs ≡ is_some w.client.task → length (begun_names (e ∷ es)) ≡ w.begun
+    → length (made_names (e ∷ es)) ≡ length (dbs_of w.client) + length (making w.client.task)
+    → ((name : List ℕ) → has_name name (made_names (e ∷ es)) ≡ (is_some (keyed db_name name (dbs_of w.client)) || has_name name (making w.client.task)))
     → allows_ask w q ≡ ask_stands w.spec (e ∷ es) runs q
 going_on w e es runs (ask.Create block retention) z r b c n = z
 going_on w e es runs (ask.Step t) z r b c n = ap (λ (x : Bool). x && (t == 1)) (sym r)
 going_on w e es runs (ask.Begin db) z r b c n =
-    ap (λ (x : Bool). x && nat_lt w.begun 64) (idle_is (w.client.number == 0) w.client.task z ∙ ap not (sym r)) ∙ ap (λ (k : ℕ). not runs && nat_lt k 64) (sym b)
-going_on w e es runs (ask.Read txn page) z r b c n = idle_is (w.client.number == 0) w.client.task z ∙ ap not (sym r)
+    ap (λ (x : Bool). x && nat_lt w.begun 64) (idle_is (is_none w.client.latest) w.client.task z ∙ ap not (sym r)) ∙ ap (λ (k : ℕ). not runs && nat_lt k 64) (sym b)
+going_on w e es runs (ask.Read txn page) z r b c n = idle_is (is_none w.client.latest) w.client.task z ∙ ap not (sym r)
 going_on w e es runs (ask.NewDb db page_size pages) z r b c n =
-    ap (λ (x : Bool). ((x && nat_le (length pages) (w.spec.block / w.spec.page)) && not (has_database w.client db)) && nat_lt (length w.client.dbs.items) 1024) (idle_is (w.client.number == 0) w.client.task z)
-    ∙ new_alike runs (nat_le (length pages) (w.spec.block / w.spec.page)) (has_database w.client db) w.client.task (made_names (e ∷ es)) db (length w.client.dbs.items) (length (made_names (e ∷ es))) r (n db) c
+    ap (λ (x : Bool). ((x && nat_le (length pages) (w.spec.block / w.spec.page)) && not (has_database w.client db)) && nat_lt (length (dbs_of w.client)) 1024) (idle_is (is_none w.client.latest) w.client.task z)
+    ∙ new_alike runs (nat_le (length pages) (w.spec.block / w.spec.page)) (has_database w.client db) w.client.task (made_names (e ∷ es)) db (length (dbs_of w.client)) (length (made_names (e ∷ es))) r (n db) c
 going_on w e es runs _ z r b c n = refl
 
-by_history : (w : World) (es : List Event) (runs : Bool) (q : Ask) → is_nil es ≡ ((w.client.number == 0) && is_none w.client.task) → runs ≡ is_some w.client.task → length (begun_names es) ≡ w.begun
-    → length (made_names es) ≡ length w.client.dbs.items + length (making w.client.task)
-    → ((name : List ℕ) → has_name name (made_names es) ≡ (is_some (keyed db_name name w.client.dbs.items) || has_name name (making w.client.task)))
+by_history : (w : World) (es : List Event) (runs : Bool) (q : Ask) → is_nil es ≡ (is_none w.client.latest && is_none w.client.task) → runs ≡ is_some w.client.task → length (begun_names es) ≡ w.begun
+    → length (made_names es) ≡ length (dbs_of w.client) + length (making w.client.task)
+    → ((name : List ℕ) → has_name name (made_names es) ≡ (is_some (keyed db_name name (dbs_of w.client)) || has_name name (making w.client.task)))
     → allows_ask w q ≡ ask_stands w.spec es runs q
-by_history w [] runs q z r b c n = let h = and_parts (w.client.number == 0) (is_none w.client.task) (sym z) in nothing_yet w runs q h.0 h.1
+by_history w [] runs q z r b c n = let h = and_parts (is_none w.client.latest) (is_none w.client.task) (sym z) in nothing_yet w runs q h.0 h.1
 by_history w (e ∷ es) runs q z r b c n = going_on w e es runs q (sym z) r b c n
 
 pub allowed : (w : World) (e : Event) → AllowsExactly w e

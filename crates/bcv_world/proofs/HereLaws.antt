@@ -1,28 +1,32 @@
 -- The one client of a world, seen in the machine's state.
-use Rattle.std.proofs.Common.{◌≡◌, ℕ, suc, ◌+◌, ◌-◌, ◌<◌, ◌≤◌, ◌==◌, Bool, true, false, not, List, [], ◌∷◌, ◌++◌, length, map, Option, Some, None, is_none, slice_get, inl, inr, ◌||◌, length-append, option_and_then, refl, sym, ap, ◌∙◌, subst, arith, cond}
+use Rattle.std.proofs.Common.{◌≡◌, ℕ, suc, ◌+◌, ◌-◌, ◌<◌, ◌≤◌, ◌==◌, Bool, true, false, not, List, [], ◌∷◌, ◌++◌, length, map, Option, Some, None, is_none, slice_get, ◌||◌, length-append, option_and_then, refl, sym, ap, ◌∙◌, subst, arith, cond}
 use Rattle.std.proofs.lemmas.Bool.{false≢true, eqb-false, ne_eqb}
 use Rattle.std.specs.Option.{option_map}
 use Rattle.std.specs.Str.{bytes_eq}
-use Rattle.bcv_base.specs.declared.log.Entry.{Entry}
+use Rattle.bcv_base.specs.declared.seen.Latest.{Latest}
+use Rattle.bcv_base.specs.History.{Item, Always, last_of}
+use Rattle.bcv_base.specs.HistoryLaws.{last_is, version-count}
 use Rattle.bcv_base.specs.Keyed.{keyed}
 use Rattle.bcv_base.specs.declared.manifest.DbEntry.{DbEntry}
 use Rattle.bcv_base.specs.Joined.{database_of}
-use Rattle.bcv_base.specs.Version.{Database, Version, the_name}
+use Rattle.bcv_base.specs.Version.{Version, the_name}
+use Rattle.bcv_base.specs.Versions.{Reads, version_of, versions_of}
 use Rattle.bcv_model.specs.declared.spec.WorldSpec.{WorldSpec}
 use Rattle.bcv_model.specs.MachineState as m
 use Rattle.bcv_world.specs.declared.client.Client.{Client}
-use Rattle.bcv_world.specs.declared.task.Task.{Task}
 use Rattle.bcv_world.specs.declared.txn.Txn.{Txn}
 use Rattle.bcv_world.specs.declared.world.World.{World}
-use Rattle.bcv_world.specs.Stands.{is_idle, is_nil, EndsWith, db_name}
+use Rattle.bcv_base.specs.ManifestRules.{db_name}
+use Rattle.bcv_world.specs.Known.{number_of, dbs_of, number_in, dbs_in}
+use Rattle.bcv_world.specs.Stands.{IsCreated, is_idle, is_nil}
 use Rattle.bcv_world.proofs.HistoryLaws.{and_parts}
 use Rattle.bcv_world.specs.Seen.{seen, seen_known, seen_client, seen_up, seen_txn, seen_txns}
 
-abbrev pub here_of : List Entry → WorldSpec → Client → List Version → ℕ → m.Here
-here_of log spec c versions noted = record { state = seen log spec c versions noted; number = 1; client = seen_client log spec.slots noted c; up = seen_up log c }
+abbrev pub here_of : List Item → WorldSpec → Client → ℕ → m.Here
+here_of past spec c noted = record { state = seen past spec c noted; number = 1; client = seen_client past spec.slots noted c; up = seen_up past c }
 
-pub is_here : (log : List Entry) (spec : WorldSpec) (c : Client) (versions : List Version) (noted : ℕ) → m.IsHere (seen log spec c versions noted) 1 (here_of log spec c versions noted)
-is_here log spec c versions noted = record { same_state = refl; same_number = refl; from_one = omega arith; is_client = refl; is_up = refl }
+pub is_here : (past : List Item) (spec : WorldSpec) (c : Client) (noted : ℕ) → m.IsHere (seen past spec c noted) 1 (here_of past spec c noted)
+is_here past spec c noted = record { same_state = refl; same_number = refl; from_one = omega arith; is_client = refl; is_up = refl }
 
 -- a look-up among values that keep their keys
 pub keyed_map : {A B : Type 0} (ka : A → List ℕ) (kb : B → List ℕ) (f : A → B) → ((x : A) → kb (f x) ≡ ka x) → (k : List ℕ) (xs : List A)
@@ -35,57 +39,64 @@ keyed_map ka kb f e k (x ∷ xs) =
       | false ↦ keyed_map ka kb f e k xs
     ]
 
-pub seen_push : (log : List Entry) (n : ℕ) (ts : List Txn) (t : Txn) → seen_txns log n (ts ++ t ∷ []) ≡ seen_txns log n ts ++ seen_txn log (n + length ts) t ∷ []
-seen_push log n [] t = ap (λ k. seen_txn log k t ∷ []) (omega arith)
-seen_push log n (u ∷ ts) t = ap (λ l. seen_txn log n u ∷ l) (seen_push log (n + 1) ts t ∙ ap (λ k. seen_txns log (n + 1) ts ++ seen_txn log k t ∷ []) (omega arith))
+pub seen_push : (past : List Item) (n : ℕ) (ts : List Txn) (t : Txn) → seen_txns past n (ts ++ t ∷ []) ≡ seen_txns past n ts ++ seen_txn past (n + length ts) t ∷ []
+seen_push past n [] t = ap (λ k. seen_txn past k t ∷ []) (omega arith)
+seen_push past n (u ∷ ts) t = ap (λ l. seen_txn past n u ∷ l) (seen_push past (n + 1) ts t ∙ ap (λ k. seen_txns past (n + 1) ts ++ seen_txn past k t ∷ []) (omega arith))
 
-pub no_task : (t : Option Task) → is_none t ≡ true → t ≡ None
-no_task None e = refl
-no_task (Some t) e = absurd (false≢true e)
+pub nothing_there : {A : Type 0} (o : Option A) → is_none o ≡ true → o ≡ None
+nothing_there None e = refl
+nothing_there (Some x) e = absurd (false≢true e)
 
 pub not_true : (b : Bool) → not b ≡ true → b ≡ false
 not_true true e = absurd (false≢true e)
 not_true false e = refl
 
 -- the transactions from n on have the numbers from n on
-abbrev pub numbers : List Entry → ℕ → List Txn → List ℕ
-numbers log n ts = map (λ (t : m.Txn). t.number) (seen_txns log n ts)
+abbrev pub numbers : List Item → ℕ → List Txn → List ℕ
+numbers past n ts = map (λ (t : m.Txn). t.number) (seen_txns past n ts)
 
-pub number_free : (log : List Entry) (n : ℕ) (ts : List Txn) (k : ℕ) → n + length ts ≤ k → m.has_number k (numbers log n ts) ≡ false
-number_free log n [] k le = refl
-number_free log n (t ∷ ts) k le =
-    ap (λ (b : Bool). b || m.has_number k (numbers log (n + 1) ts)) (ne_eqb n k (λ e. absurd (omega arith))) ∙ number_free log (n + 1) ts k (omega arith)
+pub number_free : (past : List Item) (n : ℕ) (ts : List Txn) (k : ℕ) → n + length ts ≤ k → m.has_number k (numbers past n ts) ≡ false
+number_free past n [] k le = refl
+number_free past n (t ∷ ts) k le =
+    ap (λ (b : Bool). b || m.has_number k (numbers past (n + 1) ts)) (ne_eqb n k (λ e. absurd (omega arith))) ∙ number_free past (n + 1) ts k (omega arith)
 
-pub number_there : (log : List Entry) (n : ℕ) (ts : List Txn) (k : ℕ) → n ≤ k → k < n + length ts → m.has_number k (numbers log n ts) ≡ true
-number_there log n [] k le lt = absurd (omega arith)
-number_there log n (t ∷ ts) k le lt =
-    elim (n == k) as (λ (b : Bool). (n == k) ≡ b → (b || m.has_number k (numbers log (n + 1) ts)) ≡ true) [
+pub number_there : (past : List Item) (n : ℕ) (ts : List Txn) (k : ℕ) → n ≤ k → k < n + length ts → m.has_number k (numbers past n ts) ≡ true
+number_there past n [] k le lt = absurd (omega arith)
+number_there past n (t ∷ ts) k le lt =
+    elim (n == k) as (λ (b : Bool). (n == k) ≡ b → (b || m.has_number k (numbers past (n + 1) ts)) ≡ true) [
       | true ↦ λ e. refl
-      | false ↦ λ e. number_there log (n + 1) ts k (next_le n k (eqb-false n k e) le) (omega arith)
+      | false ↦ λ e. number_there past (n + 1) ts k (next_le n k (eqb-false n k e) le) (omega arith)
     ] refl
   where
     next_le : (n k : ℕ) → (n ≡ k → ⊥) → n ≤ k → n + 1 ≤ k
     next_le n k ne le = omega (arith, ne)
 
-pub next_number : (log : List Entry) (ts : List Txn) → m.IsLeastFree (numbers log 1 ts) (length ts + 1)
-next_number log ts = record {
+pub next_number : (past : List Item) (ts : List Txn) → m.IsLeastFree (numbers past 1 ts) (length ts + 1)
+next_number past ts = record {
   from_one = omega arith;
-  free = number_free log 1 ts (length ts + 1) (omega arith);
-  least = λ k le lt. number_there log 1 ts k le (omega arith);
+  free = number_free past 1 ts (length ts + 1) (omega arith);
+  least = λ k le lt. number_there past 1 ts k le (omega arith);
 }
 
-pub length_seen : (log : List Entry) (n : ℕ) (ts : List Txn) → length (seen_txns log n ts) ≡ length ts
-length_seen log n [] = refl
-length_seen log n (t ∷ ts) = ap suc (length_seen log (n + 1) ts)
+pub length_seen : (past : List Item) (n : ℕ) (ts : List Txn) → length (seen_txns past n ts) ≡ length ts
+length_seen past n [] = refl
+length_seen past n (t ∷ ts) = ap suc (length_seen past (n + 1) ts)
+
+-- a client that keeps something was created
+pub created : (o : Option Latest) → is_none o ≡ false → (l : Latest) × (o ≡ Some l)
+created None e = absurd (false≢true (sym e))
+created (Some l) e = (l, refl)
 
 -- what holds while no task runs
 pub record Idle (w : World) : Type 0 where
-  pub created : (w.client.number == 0) ≡ false
+  pub some : is_none w.client.latest ≡ false
+  pub created : IsCreated w.client
   pub task : w.client.task ≡ None
 
 pub idle : (w : World) → is_idle w ≡ true → Idle w
 idle w e =
-    let h = and_parts (not (w.client.number == 0)) (is_none w.client.task) e in record { created = not_true (w.client.number == 0) h.0; task = no_task w.client.task h.1 }
+    let h = and_parts (not (is_none w.client.latest)) (is_none w.client.task) e in
+    let some : is_none w.client.latest ≡ false = not_true (is_none w.client.latest) h.0 in record { some = some; created = created w.client.latest some; task = nothing_there w.client.task h.1 }
 
 pub nil_then : {A : Type 0} (xs : List A) (x : A) → is_nil (xs ++ x ∷ []) ≡ false
 nil_then [] x = refl
@@ -98,37 +109,42 @@ get_end (y ∷ ys) x = get_end ys x
 pub get_last : {A : Type 0} (xs : List A) (x : A) → slice_get (xs ++ x ∷ []) (length (xs ++ x ∷ []) - 1) ≡ Some x
 get_last xs x = let e : length (xs ++ x ∷ []) - 1 ≡ length xs = omega (arith, length-append xs (x ∷ [])) in ap (slice_get (xs ++ x ∷ [])) e ∙ get_end xs x
 
-pub last_version : (versions : List Version) (dbs : List Database) → EndsWith versions dbs → 0 < length versions
-    → (v : Version) × (slice_get versions (length versions - 1) ≡ Some v) × (v.dbs ≡ dbs)
-last_version versions dbs e lt = elim e as (λ _. (v : Version) × (slice_get versions (length versions - 1) ≡ Some v) × (v.dbs ≡ dbs)) [
-  | inl n ↦ absurd (omega (arith, ap length n.0))
-  | inr s ↦ (s.1, subst (λ vs. slice_get vs (length vs - 1) ≡ Some s.1) (sym s.2) (get_last s.0 s.1), s.3)
-]
+-- ---- the last version
 
--- the last version has the number of all versions
-pub last_at : (log : List Entry) (spec : WorldSpec) (c : Client) (versions : List Version) (noted : ℕ) → EndsWith versions (map (database_of log) c.dbs.items) → length versions ≡ c.number
-    → (c.number == 0) ≡ false → (v : Version) × (m.version_at (seen log spec c versions noted) c.number ≡ Some v) × (v.dbs ≡ map (database_of log) c.dbs.items)
-last_at log spec c versions noted e n z =
-    let some : c.number ≡ 0 → ⊥ = eqb-false c.number 0 z in
-    let v = last_version versions (map (database_of log) c.dbs.items) e (above c.number (length versions) some n) in
-    (v.0, ap (λ (b : Bool). cond b None (slice_get versions (c.number - 1))) z ∙ ap (λ k. slice_get versions (k - 1)) (sym n) ∙ v.1, v.2)
+-- the last version is that of the manifest that the client keeps, and its number counts them
+pub record LastAt (past : List Item) (spec : WorldSpec) (c : Client) (noted : ℕ) (l : Latest) : Type 0 where
+  pub count : length (versions_of past) ≡ l.manifest.number
+  pub at : m.version_at (seen past spec c noted) l.manifest.number ≡ Some (version_of past l.manifest)
+
+pub last_at : (past : List Item) (spec : WorldSpec) (c : Client) (noted : ℕ) (l : Latest) → Always Reads past → last_of past ≡ Some l.manifest → LastAt past spec c noted l
+last_at past spec c noted l reads last =
+    let k = last_is past l.manifest reads last in
+    let count : length (versions_of past) ≡ l.manifest.number = version-count past reads ∙ sym k.number in
+    let some : (l.manifest.number == 0) ≡ false = ne_eqb l.manifest.number 0 (above l.manifest.number (length (versions_of past)) (length k.older) count (ap length k.versions ∙ length-append k.older (version_of past l.manifest ∷ []))) in
+    record {
+      count = count;
+      at = ap (λ (b : Bool). cond b None (slice_get (versions_of past) (l.manifest.number - 1))) some ∙ ap (λ k. slice_get (versions_of past) (k - 1)) (sym count)
+          ∙ subst (λ (vs : List Version). slice_get vs (length vs - 1) ≡ Some (version_of past l.manifest)) (sym k.versions) (get_last k.older (version_of past l.manifest));
+    }
   where
-    above : (k n : ℕ) → (k ≡ 0 → ⊥) → n ≡ k → 0 < n
-    above k n ne e = omega (arith, ne)
+    above : (k n m : ℕ) → n ≡ k → n ≡ m + 1 → k ≡ 0 → ⊥
+    above k n m e more z = omega arith
 
 -- the database of a name in the last version
-pub database_seen : (log : List Entry) (spec : WorldSpec) (c : Client) (versions : List Version) (noted : ℕ) → EndsWith versions (map (database_of log) c.dbs.items) → length versions ≡ c.number
-    → (c.number == 0) ≡ false → (db : List ℕ) → m.database_at (seen log spec c versions noted) c.number db ≡ option_map (database_of log) (keyed db_name db c.dbs.items)
-database_seen log spec c versions noted e n z db =
-    let v = last_at log spec c versions noted e n z in
-    ap (option_and_then (λ (v : Version). keyed the_name db v.dbs)) v.1 ∙ ap (keyed the_name db) v.2 ∙ keyed_map db_name the_name (database_of log) (λ d. refl) db c.dbs.items
+pub database_seen : (past : List Item) (spec : WorldSpec) (c : Client) (noted : ℕ) (l : Latest) → Always Reads past → last_of past ≡ Some l.manifest → c.latest ≡ Some l
+    → (db : List ℕ) → m.database_at (seen past spec c noted) (number_of c) db ≡ option_map (database_of past) (keyed db_name db (dbs_of c))
+database_seen past spec c noted l reads last is db =
+    ap (λ (o : Option Latest). m.database_at (seen past spec c noted) (number_in o) db) is
+    ∙ ap (option_and_then (λ (v : Version). keyed the_name db v.dbs)) (last_at past spec c noted l reads last).at
+    ∙ keyed_map db_name the_name (database_of past) (λ d. refl) db l.manifest.dbs
+    ∙ ap (λ (o : Option Latest). option_map (database_of past) (keyed db_name db (dbs_in o))) (sym is)
 
 -- what is known of a name
-pub view_seen : (log : List Entry) (spec : WorldSpec) (c : Client) (versions : List Version) (noted : ℕ) (db : List ℕ)
-    → m.view_of (here_of log spec c versions noted) db ≡ option_map (λ (d : DbEntry). record { base = c.number; commits = [] }) (keyed db_name db c.dbs.items)
-view_seen log spec c versions noted db =
-    ap (option_map (λ (d : m.KnownDb). let v : m.View = record { base = d.base; commits = [] } in v)) (keyed_map db_name m.known_name (seen_known c.number) (λ d. refl) db c.dbs.items)
-    ∙ elim (keyed db_name db c.dbs.items) as (λ (o : Option DbEntry). option_map (λ (d : m.KnownDb). let v : m.View = record { base = d.base; commits = [] } in v) (option_map (seen_known c.number) o) ≡ option_map (λ (d : DbEntry). let v : m.View = record { base = c.number; commits = [] } in v) o) [
+pub view_seen : (past : List Item) (spec : WorldSpec) (c : Client) (noted : ℕ) (db : List ℕ)
+    → m.view_of (here_of past spec c noted) db ≡ option_map (λ (d : DbEntry). record { base = number_of c; commits = [] }) (keyed db_name db (dbs_of c))
+view_seen past spec c noted db =
+    ap (option_map (λ (d : m.KnownDb). let v : m.View = record { base = d.base; commits = [] } in v)) (keyed_map db_name m.known_name (seen_known (number_of c)) (λ d. refl) db (dbs_of c))
+    ∙ elim (keyed db_name db (dbs_of c)) as (λ (o : Option DbEntry). option_map (λ (d : m.KnownDb). let v : m.View = record { base = d.base; commits = [] } in v) (option_map (seen_known (number_of c)) o) ≡ option_map (λ (d : DbEntry). let v : m.View = record { base = number_of c; commits = [] } in v) o) [
       | None ↦ refl
       | Some d ↦ refl
     ]

@@ -50,7 +50,7 @@ length_with key a (x ∷ xs) none =
 
 -- ---- the place of a new key
 
-keyed_parts : {A : Type 0} (key : A → List ℕ) (k : List ℕ) (x : A) (xs : List A) → keyed key k (x ∷ xs) ≡ None → (bytes_eq (key x) k ≡ false) × (keyed key k xs ≡ None)
+pub keyed_parts : {A : Type 0} (key : A → List ℕ) (k : List ℕ) (x : A) (xs : List A) → keyed key k (x ∷ xs) ≡ None → (bytes_eq (key x) k ≡ false) × (keyed key k xs ≡ None)
 keyed_parts key k x xs none =
     elim (bytes_eq (key x) k) as (λ (b : Bool). cond b (Some x) (keyed key k xs) ≡ None → (b ≡ false) × (keyed key k xs ≡ None)) [
       | true ↦ λ e. absurd (cc)

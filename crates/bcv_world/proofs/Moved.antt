@@ -1,7 +1,9 @@
 -- A world that stood for a history stands for it with one more event, where the machine takes the event.
 use Rattle.std.proofs.Common.{◌≡◌, ℕ, ◌+◌, ◌<◌, ◌≤◌, ◌^◌, ◌⊎◌, inl, inr, true, List, [], ◌∷◌, ◌++◌, refl, sym, ap, ◌∙◌, subst, arith, append-nil, length-append}
 use Rattle.bcv_base.specs.declared.id.Id16.{Id16}
+use Rattle.bcv_base.specs.History.{Always, history_of}
 use Rattle.bcv_base.specs.Numbered.{numbered}
+use Rattle.bcv_base.specs.Versions.{Reads}
 use Rattle.bcv_memstore.specs.Told.{log_of}
 use Rattle.bcv_model.specs.declared.event.Event.{Event}
 use Rattle.bcv_model.specs.declared.reply.Said.{Said}
@@ -34,8 +36,8 @@ differ_ids before now old more p a d =
 
 pub moved : (old new : World) (h : History) (a b : State) (e : Event) (s : Said) (c : Choice) → Mirrors old h a → Counts old new
     → stands old.spec h.events h.saids e ≡ true → Next a e s c b → old.names.count ≤ new.names.count → DrawsNext old.names.count new.names.count (drawn_by e s c)
-    → Shows (log_of new.store) new.spec new.names.count new.client b → Recalls new.client new.begun (then_said h e s c) → Mirrors new (then_said h e s c) b
-moved old new h a b e s c m k st n le d sh re =
+    → Shows (log_of new.store) new.spec new.client b → Always Reads (history_of (log_of new.store)) → Recalls new.client new.begun (then_said h e s c) → Mirrors new (then_said h e s c) b
+moved old new h a b e s c m k st n le d sh reads re =
     let together = drawn_then h.events h.saids h.choices e s c m.said (m.chosen) in
     let run = run_then (first_state old.spec.clients old.spec.slots) a b h.events h.saids h.choices e s c m.accepts.run n in
     let differ = differ_ids old.names.count new.names.count (drawn h.events h.saids h.choices) (drawn_by e s c) m.ids m.accepts.differ d in
@@ -48,5 +50,6 @@ moved old new h a b e s c m k st n le d sh re =
       chosen = length-append h.choices (c ∷ []) ∙ ap (λ x. x + 1) m.chosen ∙ sym (length-append h.events (e ∷ []));
       ids = subst (Each (IsDrawn new.names.count)) (sym together) (drawn_ids old.names.count new.names.count (drawn h.events h.saids h.choices) (drawn_by e s c) le m.ids d);
       shows = sh;
+      versions = record { read = reads; are = sym (ap (λ (x : State). x.versions) sh.is) };
       recalls = re;
     }

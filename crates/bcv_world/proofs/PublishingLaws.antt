@@ -1,16 +1,21 @@
 -- What the start of a publishing task does to the state that a world stands for.
-use Rattle.std.proofs.Common.{◌≡◌, ℕ, ◌+◌, ◌*◌, ◌/◌, ◌<◌, ◌≤◌, ◌^◌, ◌==◌, Bool, true, false, not, ◌&&◌, ◌||◌, List, [], ◌∷◌, ◌++◌, length, map, Option, Some, None, is_none, is_some, refl, sym, ap, ◌∙◌, subst, arith, length-append, append-nil, inr, nat_le, nat_lt}
+use Rattle.std.proofs.Common.{◌≡◌, ℕ, ◌+◌, ◌*◌, ◌/◌, ◌<◌, ◌≤◌, ◌^◌, Bool, true, false, not, ◌&&◌, ◌||◌, List, [], ◌∷◌, ◌++◌, length, map, Option, Some, None, is_none, is_some, refl, sym, ap, ◌∙◌, subst, arith, length-append, append-nil, inr, nat_le, nat_lt}
 use Rattle.std.proofs.Math.Bool.{or-false}
 use Rattle.std.proofs.Math.Nat.{mul-le-mul_right, div-mul-le_self}
-use Rattle.std.proofs.lemmas.Bool.{and_right, false≢true, eqb-true, eqb-false, leb-true, ltb-true}
+use Rattle.std.proofs.lemmas.Bool.{and_right, false≢true, leb-true, ltb-true}
 use Rattle.std.proofs.lemmas.List.Folds.{list_any-append}
 use Rattle.std.specs.Str.{bytes_eq}
 use Rattle.bcv_base.specs.declared.id.Id16.{Id16}
 use Rattle.bcv_base.specs.declared.log.Entry.{Entry}
+use Rattle.bcv_base.specs.declared.seen.Latest.{Latest}
+use Rattle.bcv_base.specs.History.{Item, history_of}
 use Rattle.bcv_base.specs.Ids.{has_id}
 use Rattle.bcv_base.specs.Keyed.{keyed}
 use Rattle.bcv_base.specs.Numbered.{Counter, numbered}
+use Rattle.bcv_base.specs.Names.{is_name}
 use Rattle.bcv_base.specs.Version.{Version}
+use Rattle.bcv_base.specs.Versions.{versions_of}
+use Rattle.std.specs.Option.{option_map}
 use Rattle.bcv_base.proofs.NumberedNames.{IsId-numbered}
 use Rattle.bcv_memstore.specs.Told.{log_of}
 use Rattle.bcv_model.specs.declared.ask.Ask.{Ask}
@@ -31,19 +36,21 @@ use Rattle.bcv_world.specs.declared.task.NewTask.{NewTask}
 use Rattle.bcv_world.specs.declared.task.Stage.TheVariants as stage
 use Rattle.bcv_world.specs.declared.world.World.{World}
 use Rattle.bcv_world.specs.FirstPath.{made_by, made_names, begun_by, begun_names, leaves_task}
-use Rattle.bcv_world.specs.Seen.{seen, seen_up, seen_task, left_of, read_of}
+use Rattle.bcv_world.specs.Known.{dbs_of}
+use Rattle.bcv_world.specs.Seen.{seen, seen_up, seen_task, left_of, read_number}
 use Rattle.bcv_world.specs.declared.task.Stage.{Stage}
-use Rattle.bcv_world.specs.Stands.{Each, IsDrawn, Mirrors, Recalls, IsGood, Fits, FitsTask, FitsStage, allows_ask, KeepsAsk, asked, making, has_name, has_database, db_name, is_idle}
-use Rattle.bcv_world.proofs.HereLaws.{here_of, is_here, idle, no_task, nil_then}
+use Rattle.bcv_base.specs.ManifestRules.{db_name}
+use Rattle.bcv_world.specs.Stands.{Each, IsDrawn, Mirrors, Recalls, IsGood, Fits, FitsTask, FitsStage, HasRead, allows_ask, KeepsAsk, asked, making, has_name, has_database, is_idle}
+use Rattle.bcv_world.proofs.HereLaws.{here_of, is_here, idle, nothing_there, nil_then}
 use Rattle.bcv_world.proofs.HistoryLaws.{and_parts, runs_then, made_then, begun_then, next_other}
 use Rattle.bcv_world.proofs.Moved.{moved}
 use Rattle.bcv_world.proofs.Allowed.{allowed}
 
 -- what a client has of a history with one more event, which begins no transaction
 pub recalls_moves : (c new : Client) (begun : ℕ) (h : History) (e : Event) (s : Said) (x : Choice) → Recalls c begun h → begun_by e ≡ [] → leaves_task s.reply ≡ is_some new.task
-    → ((new.number == 0) && is_none new.task) ≡ false
-    → (length c.dbs.items + length (making c.task)) + length (made_by e) ≡ length new.dbs.items + length (making new.task)
-    → ((name : List ℕ) → ((is_some (keyed db_name name c.dbs.items) || has_name name (making c.task)) || has_name name (made_by e)) ≡ (is_some (keyed db_name name new.dbs.items) || has_name name (making new.task)))
+    → (is_none new.latest && is_none new.task) ≡ false
+    → (length (dbs_of c) + length (making c.task)) + length (made_by e) ≡ length (dbs_of new) + length (making new.task)
+    → ((name : List ℕ) → ((is_some (keyed db_name name (dbs_of c)) || has_name name (making c.task)) || has_name name (made_by e)) ≡ (is_some (keyed db_name name (dbs_of new)) || has_name name (making new.task)))
     → Recalls new begun (then_said h e s x)
 recalls_moves c new begun h e s x r none leaves there count names = record {
   empty = nil_then h.events e ∙ sym there;
@@ -67,17 +74,17 @@ fresh_versions n (v ∷ vs) more lt p =
     ∙ fresh_versions n vs more lt p.1
 
 -- a publishing task starts where none runs
-pub starts : (log : List Entry) (spec : WorldSpec) (c : Client) (versions : List Version) (noted n : ℕ) (kind : m.Kind) (k : Task) (left : ℕ) → c.task ≡ None → n + 1 < 2 ^ 128
-    → Each (λ (v : Version). IsDrawn n v.id) versions → seen_task c.number k ≡ started 1 kind (numbered (n + 1)) left → LeftAtStart kind left
-    → Starts (here_of log spec c versions noted) kind (numbered (n + 1)) (reply.Task 1 left) (seen log spec (record c { task = Some k }) versions noted)
-starts log spec c versions noted n kind k left none lt drawn same at =
-    subst (λ (t : Option Task). Starts (here_of log spec (record c { task = t }) versions noted) kind (numbered (n + 1)) (reply.Task 1 left) (seen log spec (record c { task = Some k }) versions noted)) (sym none) (
+pub starts : (past : List Item) (spec : WorldSpec) (c : Client) (noted n : ℕ) (kind : m.Kind) (k : Task) (left : ℕ) → c.task ≡ None → n + 1 < 2 ^ 128
+    → Each (λ (v : Version). IsDrawn n v.id) (versions_of past) → seen_task k ≡ started 1 kind (numbered (n + 1)) left → LeftAtStart kind left
+    → Starts (here_of past spec c noted) kind (numbered (n + 1)) (reply.Task 1 left) (seen past spec (record c { task = Some k }) noted)
+starts past spec c noted n kind k left none lt drawn same at =
+    subst (λ (t : Option Task). Starts (here_of past spec (record c { task = t }) noted) kind (numbered (n + 1)) (reply.Task 1 left) (seen past spec (record c { task = Some k }) noted)) (sym none) (
       refl,
       record { from_one = omega arith; free = refl; least = λ j le below. absurd (omega arith) },
       at,
       IsId-numbered (n + 1),
-      ap not (fresh_versions n versions [] lt drawn),
-      ap (λ (t : m.Task). m.with_up (here_of log spec c versions noted) (record (seen_up log c) { tasks = t ∷ [] })) same,
+      ap not (fresh_versions n (versions_of past) [] lt drawn),
+      ap (λ (t : m.Task). m.with_up (here_of past spec c noted) (record (seen_up past c) { tasks = t ∷ [] })) same,
     )
 
 -- the world with a task that makes or creates, under the next name
@@ -86,7 +93,7 @@ started_world w names k = record w { names = names; client = record w.client { t
 
 -- a publishing task that was asked for starts
 start_applies : (w : World) (names : Counter) (q : Ask) (kind : m.Kind) (k : Task) (left : ℕ) → IsGood w → w.applied < 2 ^ 62 → names ≡ record { count = w.names.count + 1; faults = 0 }
-    → allows_ask w q ≡ true → w.client.task ≡ None → seen_task w.client.number k ≡ started 1 kind (numbered (w.names.count + 1)) left → LeftAtStart kind left
+    → allows_ask w q ≡ true → w.client.task ≡ None → seen_task k ≡ started 1 kind (numbered (w.names.count + 1)) left → LeftAtStart kind left
     → begun_by (asked q) ≡ [] → made_by (asked q) ≡ making (Some k)
     → ((c : Choice) → drawn_by (asked q) (record { published = None; reply = reply.Task 1 left }) c ≡ c.name ∷ [])
     → ((h : m.Here) (c : Choice) (b : m.State) → Starts h kind c.name (reply.Task 1 left) b → Asks h q outcome.Ok (record { published = None; reply = reply.Task 1 left }) c b)
@@ -95,7 +102,7 @@ start_applies : (w : World) (names : Counter) (q : Ask) (kind : m.Kind) (k : Tas
 start_applies w names q kind k left g few next al none same at begun made draws asks h a mi =
     let c : Choice = record { name = numbered (w.names.count + 1); second = false } in
     let s : Said = record { published = None; reply = reply.Task 1 left } in
-    let b : m.State = seen (log_of w.store) w.spec (record w.client { task = Some k }) mi.shows.versions mi.shows.noted in
+    let b : m.State = seen (history_of (log_of w.store)) w.spec (record w.client { task = Some k }) mi.shows.noted in
     let lt : w.names.count + 1 < 2 ^ 128 = omega (arith, g.few_names) in
     let count : names.count ≡ w.names.count + 1 = ap (λ (n : Counter). n.count) next in (
       c,
@@ -103,27 +110,21 @@ start_applies w names q kind k left g few next al none same at begun made draws 
       moved w (started_world w names k) h a b (asked q) s c mi (record { spec = refl; applied = refl })
           (sym (allowed w (asked q) h a mi) ∙ al)
           (subst (λ (x : m.State). Next x (asked q) s c b) (sym mi.shows.is) (
-            here_of (log_of w.store) w.spec w.client mi.shows.versions mi.shows.noted,
-            is_here (log_of w.store) w.spec w.client mi.shows.versions mi.shows.noted,
-            asks (here_of (log_of w.store) w.spec w.client mi.shows.versions mi.shows.noted) c b
-                (starts (log_of w.store) w.spec w.client mi.shows.versions mi.shows.noted w.names.count kind k left none lt mi.shows.ids same at),
+            here_of (history_of (log_of w.store)) w.spec w.client mi.shows.noted,
+            is_here (history_of (log_of w.store)) w.spec w.client mi.shows.noted,
+            asks (here_of (history_of (log_of w.store)) w.spec w.client mi.shows.noted) c b
+                (starts (history_of (log_of w.store)) w.spec w.client mi.shows.noted w.names.count kind k left none lt g.fits.ids same at),
           ))
           (omega (arith, count))
           (inr (draws c, omega (arith, count), lt))
-          (record {
-            versions = mi.shows.versions;
-            noted = mi.shows.noted;
-            is = refl;
-            number = mi.shows.number;
-            ends = mi.shows.ends;
-            ids = versions_more w.names.count names.count mi.shows.versions (omega (arith, count)) mi.shows.ids;
-          })
-          (recalls_moves w.client (record w.client { task = Some k }) w.begun h (asked q) s c mi.recalls begun refl (and_right (w.client.number == 0) false refl)
-          (ap (λ (t : Option Task). (length w.client.dbs.items + length (making t)) + length (made_by (asked q))) none
-          ∙ ap (λ (l : List (List ℕ)). (length w.client.dbs.items + 0) + length l) made ∙ no_more (length w.client.dbs.items) (length (making (Some k))))
-          (λ name. ap (λ (t : Option Task). (is_some (keyed db_name name w.client.dbs.items) || has_name name (making t)) || has_name name (made_by (asked q))) none
-          ∙ ap (λ (l : List (List ℕ)). (is_some (keyed db_name name w.client.dbs.items) || false) || has_name name l) made
-          ∙ ap (λ (x : Bool). x || has_name name (making (Some k))) (or-false (is_some (keyed db_name name w.client.dbs.items))))),
+          (record { noted = mi.shows.noted; is = refl })
+          g.fits.reads
+          (recalls_moves w.client (record w.client { task = Some k }) w.begun h (asked q) s c mi.recalls begun refl (and_right (is_none w.client.latest) false refl)
+          (ap (λ (t : Option Task). (length (dbs_of w.client) + length (making t)) + length (made_by (asked q))) none
+          ∙ ap (λ (l : List (List ℕ)). (length (dbs_of w.client) + 0) + length l) made ∙ no_more (length (dbs_of w.client)) (length (making (Some k))))
+          (λ name. ap (λ (t : Option Task). (is_some (keyed db_name name (dbs_of w.client)) || has_name name (making t)) || has_name name (made_by (asked q))) none
+          ∙ ap (λ (l : List (List ℕ)). (is_some (keyed db_name name (dbs_of w.client)) || false) || has_name name l) made
+          ∙ ap (λ (x : Bool). x || has_name name (making (Some k))) (or-false (is_some (keyed db_name name (dbs_of w.client)))))),
     )
   where
     no_more : (n k : ℕ) → (n + 0) + k ≡ n + k
@@ -134,7 +135,7 @@ pub create_applies : (w : World) (names : Counter) (id : Id16) (block retention 
     → (c : Choice) × (b : m.State) × Mirrors (started_world w names (task.Create id block retention)) (then_said h (asked (ask.Create block retention)) (record { published = None; reply = reply.Task 1 1 }) c) b
 create_applies w names id block retention g few next is al =
     start_applies w names (ask.Create block retention) (m.Creating block retention) (task.Create id block retention) 1 g few next al
-    (no_task w.client.task (and_parts (w.client.number == 0) (is_none w.client.task) al).1)
+    (nothing_there w.client.task (and_parts (is_none w.client.latest) (is_none w.client.task) al).1)
     (ap (λ (i : Id16). started 1 (m.Creating block retention) i 1) is) refl refl refl (λ c. refl) (λ h c b s. (refl, s))
 
 -- the task of a new database, over its parts
@@ -142,16 +143,17 @@ abbrev pub seen_new : NewTask → Id16 → ℕ → Option ℕ → m.Task
 seen_new t i left read = record { number = 1; kind = m.Making t.db t.page_size t.pages; id = Some i; left = left; read = read; refused = []; cleans = None }
 
 pub new_applies : (w : World) (names : Counter) (t : NewTask) (left : ℕ) → IsGood w → w.applied < 2 ^ 62 → names ≡ record { count = w.names.count + 1; faults = 0 } → t.id ≡ numbered (w.names.count + 1)
-    → t.stage ≡ stage.Get → left ≡ length t.pages + 2 → allows_ask w (ask.NewDb t.db t.page_size t.pages) ≡ true → (h : History) (a : m.State) → Mirrors w h a
+    → t.stage ≡ stage.Get → t.read ≡ None → left ≡ length t.pages + 2 → allows_ask w (ask.NewDb t.db t.page_size t.pages) ≡ true → (h : History) (a : m.State) → Mirrors w h a
     → (c : Choice) × (b : m.State) × Mirrors (started_world w names (task.New t)) (then_said h (asked (ask.NewDb t.db t.page_size t.pages)) (record { published = None; reply = reply.Task 1 left }) c) b
-new_applies w names t left g few next is at_get lefts al =
-    let x = and_parts (is_idle w && nat_le (length t.pages) (w.spec.block / w.spec.page) && not (has_database w.client t.db)) (nat_lt (length w.client.dbs.items) 1024) al in
+new_applies w names t left g few next is at_get unread lefts al =
+    let x = and_parts (is_idle w && nat_le (length t.pages) (w.spec.block / w.spec.page) && not (has_database w.client t.db)) (nat_lt (length (dbs_of w.client)) 1024) al in
     let y = and_parts (is_idle w && nat_le (length t.pages) (w.spec.block / w.spec.page)) (not (has_database w.client t.db)) x.0 in
     let z = and_parts (is_idle w) (nat_le (length t.pages) (w.spec.block / w.spec.page)) y.0 in
     start_applies w names (ask.NewDb t.db t.page_size t.pages) (m.Making t.db t.page_size t.pages) (task.New t) left g few next al
     (idle w z.0).task
-    (ap (λ (i : Id16). seen_new t i (left_of t.stage (length t.pages)) (read_of t.stage w.client.number)) is
-    ∙ ap (λ (s : Stage). seen_new t (numbered (w.names.count + 1)) (left_of s (length t.pages)) (read_of s w.client.number)) at_get
+    (ap (λ (i : Id16). seen_new t i (left_of t.stage (length t.pages)) (option_map read_number t.read)) is
+    ∙ ap (λ (s : Stage). seen_new t (numbered (w.names.count + 1)) (left_of s (length t.pages)) (option_map read_number t.read)) at_get
+    ∙ ap (λ (o : Option Latest). seen_new t (numbered (w.names.count + 1)) (length t.pages + 2) (option_map read_number o)) unread
     ∙ ap (λ (n : ℕ). seen_new t (numbered (w.names.count + 1)) n None) (sym lefts))
     lefts refl refl (λ c. refl) (λ h c b s. (refl, s))
 
@@ -162,13 +164,15 @@ pub fits_more : (log : List Entry) (spec : WorldSpec) (m n : ℕ) (c : Client) (
 fits_more log spec m n c k le f t = record {
   one_client = f.one_client;
   sizes = f.sizes;
+  id = f.id;
   few_txns = f.few_txns;
-  few_dbs = f.few_dbs;
   dbs = f.dbs;
   txns = f.txns;
   task = fits_alike log spec n c k k t;
-  manifest = f.manifest;
+  latest = f.latest;
+  reads = f.reads;
   put = λ i bytes e. let d = f.put i bytes e in (d.0, d.1, omega (arith, d.2), d.3);
+  ids = versions_more m n (versions_of (history_of log)) le f.ids;
 }
   where
     fits_alike : (log : List Entry) (spec : WorldSpec) (n : ℕ) (c : Client) (k k' : Option Task) → FitsTask log spec n c k → FitsTask log spec n (record c { task = k' }) k
@@ -197,33 +201,31 @@ pub create_good : (w : World) (names : Counter) (id : Id16) (block retention : �
     → allows_ask w (ask.Create block retention) ≡ true → KeepsAsk w.spec (ask.Create block retention) → IsGood (started_world w names (task.Create id block retention))
 create_good w names id block retention g next is al keeps =
     start_good w names (task.Create id block retention) g next
-    (next_drawn w.names.count names id next is, eqb-true w.client.number 0 (and_parts (w.client.number == 0) (is_none w.client.task) al).0, keeps.0, keeps.1)
+    (next_drawn w.names.count names id next is, nothing_there w.client.latest (and_parts (is_none w.client.latest) (is_none w.client.task) al).0, keeps.0, keeps.1)
 
 none_there : {A : Type 0} (o : Option A) → not (is_some o) ≡ true → o ≡ None
 none_there None e = refl
 none_there (Some x) e = absurd (false≢true e)
 
 pub new_good : (w : World) (names : Counter) (t : NewTask) → IsGood w → names ≡ record { count = w.names.count + 1; faults = 0 } → t.id ≡ numbered (w.names.count + 1)
-    → t.stage ≡ stage.Get → t.blocks ≡ [] → allows_ask w (ask.NewDb t.db t.page_size t.pages) ≡ true → KeepsAsk w.spec (ask.NewDb t.db t.page_size t.pages) → IsGood (started_world w names (task.New t))
-new_good w names t g next is at none al keeps =
-    let x = and_parts (is_idle w && nat_le (length t.pages) (w.spec.block / w.spec.page) && not (has_database w.client t.db)) (nat_lt (length w.client.dbs.items) 1024) al in
+    → t.stage ≡ stage.Get → t.read ≡ None → t.blocks ≡ [] → is_name t.db ≡ true → allows_ask w (ask.NewDb t.db t.page_size t.pages) ≡ true → KeepsAsk w.spec (ask.NewDb t.db t.page_size t.pages) → IsGood (started_world w names (task.New t))
+new_good w names t g next is at unread none name al keeps =
+    let x = and_parts (is_idle w && nat_le (length t.pages) (w.spec.block / w.spec.page) && not (has_database w.client t.db)) (nat_lt (length (dbs_of w.client)) 1024) al in
     let y = and_parts (is_idle w && nat_le (length t.pages) (w.spec.block / w.spec.page)) (not (has_database w.client t.db)) x.0 in
     let z = and_parts (is_idle w) (nat_le (length t.pages) (w.spec.block / w.spec.page)) y.0 in
-    let some : w.client.number ≡ 0 → ⊥ = eqb-false w.client.number 0 (idle w z.0).created in
     let whole : length t.pages * w.spec.page ≤ w.spec.block / w.spec.page * w.spec.page = mul-le-mul_right w.spec.page (leb-true (length t.pages) (w.spec.block / w.spec.page) z.1) in
     let part : w.spec.block / w.spec.page * w.spec.page ≤ w.spec.block = div-mul-le_self w.spec.block w.spec.page in
     start_good w names (task.New t) g next (
-      above w.client.number some,
+      (idle w z.0).created,
       record {
         id = next_drawn w.names.count names t.id next is;
-        absent = none_there (keyed db_name t.db w.client.dbs.items) y.1;
-        few = ltb-true (length w.client.dbs.items) 1024 x.1;
+        name = name;
+        absent = none_there (keyed db_name t.db (dbs_of w.client)) y.1;
+        few = ltb-true (length (dbs_of w.client)) 1024 x.1;
         page_size = keeps.0;
         pages = keeps.1;
         one_block = omega (arith, whole, part);
         stage = subst (λ (s : Stage). FitsStage (log_of w.store) w.spec s t.pages t.blocks) (sym at) none;
+        read = subst (λ (s : Stage). HasRead s t.read w.client.latest) (sym at) unread;
       },
     )
-  where
-    above : (n : ℕ) → (n ≡ 0 → ⊥) → 0 < n
-    above n ne = omega (arith, ne)

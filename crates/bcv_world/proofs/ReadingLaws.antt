@@ -1,9 +1,9 @@
 -- What the asks that read do to the state that a world stands for.
-use Rattle.std.proofs.Common.{◌≡◌, ℕ, zero, suc, ◌+◌, ◌-◌, ◌<◌, ◌≤◌, ◌==◌, Bool, true, false, not, ◌&&◌, ◌||◌, List, [], ◌∷◌, ◌++◌, length, map, Option, Some, None, is_none, is_some, refl, sym, ap, ◌∙◌, subst, arith, cond, length-append, append-nil, inl, inr, Vec, nat_lt, nat_le, add_comm, add-zero, slice_get, ◌⊎◌, drop, take, ◌*◌, unwrap_or, MatchOption}
+use Rattle.std.proofs.Common.{◌≡◌, ℕ, zero, suc, ◌+◌, ◌-◌, ◌<◌, ◌≤◌, Bool, true, false, not, ◌&&◌, ◌||◌, List, [], ◌∷◌, ◌++◌, length, map, Option, Some, None, is_none, is_some, refl, sym, ap, ◌∙◌, subst, arith, cond, length-append, append-nil, inl, inr, Vec, nat_lt, nat_le, add_comm, add-zero, slice_get, ◌⊎◌, drop, take, ◌*◌, unwrap_or, MatchOption}
 use Rattle.std.proofs.lemmas.List.{drop-drop}
 use Rattle.std.proofs.Math.Nat.{zero-mul, suc-mul, mul-le-mul_right}
 use Rattle.std.specs.declared.alloc.Global.{Global}
-use Rattle.std.proofs.lemmas.Bool.{ltb-true, eq-eqb, ne_eqb, le-leb, eqb-false}
+use Rattle.std.proofs.lemmas.Bool.{ltb-true, eq-eqb, ne_eqb, le-leb}
 use Rattle.std.specs.Str.{bytes_eq}
 use Rattle.std.specs.Option.{option_map}
 use Rattle.bcv_base.specs.declared.manifest.DbEntry.{DbEntry}
@@ -14,6 +14,9 @@ use Rattle.bcv_memstore.specs.declared.mem_store.MemStore.{MemStore}
 use Rattle.bcv_model.specs.declared.spec.WorldSpec.{WorldSpec}
 use Rattle.bcv_world.specs.declared.task.Task.{Task}
 use Rattle.bcv_base.specs.declared.log.Entry.{Entry}
+use Rattle.bcv_base.specs.declared.seen.Latest.{Latest}
+use Rattle.bcv_base.specs.History.{Item, Always, history_of, last_of}
+use Rattle.bcv_base.specs.Versions as versions
 use Rattle.bcv_model.specs.MachineReading.{Reads, HasPage}
 use Rattle.bcv_base.specs.declared.id.Id16.{Id16}
 use Rattle.bcv_base.specs.Numbered.{numbered}
@@ -31,45 +34,51 @@ use Rattle.bcv_world.specs.declared.txn.Txn.{Txn}
 use Rattle.bcv_world.specs.declared.world.World.{World}
 use Rattle.bcv_world.specs.FirstPath.{made_by, made_names, begun_by, begun_names, leaves_task}
 use Rattle.bcv_world.specs.Moves.{Begun, ReadStarts, numbered_txn, txn_of}
+use Rattle.bcv_world.specs.Known.{number_of, dbs_of, dbs_in}
 use Rattle.bcv_world.specs.Seen.{seen, seen_up, seen_txn, seen_txns, seen_task, seen_tasks}
 use Rattle.bcv_world.specs.declared.task.Task.TheVariants as task
-use Rattle.bcv_world.specs.Stands.{Mirrors, Shows, Recalls, IsGood, allows_ask, asked, making, has_name, db_name, is_idle, Each, FitsDb, FitsTxn, FitsTask, HasTxnPage, Lie, HasBlock}
+use Rattle.bcv_base.specs.ManifestRules.{db_name}
+use Rattle.bcv_world.specs.Stands.{Mirrors, Shows, Recalls, IsGood, allows_ask, asked, making, has_name, is_idle, Each, FitsDb, FitsTxn, FitsTask, FitsLatest, HasTxnPage, Lie, PutOnce}
 use Rattle.bcv_world.proofs.HereLaws.{here_of, is_here, view_seen, database_seen, seen_push, next_number, length_seen, numbers, idle, nil_then}
 use Rattle.bcv_world.proofs.HistoryLaws.{and_parts, runs_then, made_then, begun_then}
 use Rattle.bcv_world.proofs.Moved.{moved}
 use Rattle.bcv_world.proofs.Allowed.{allowed}
 
 -- an event that makes no database and leaves no task, while none runs
-pub recalls_still : (c new : Client) (begun begun' : ℕ) (h : History) (e : Event) (s : Said) (x : Choice) → Recalls c begun h → (c.number == 0) ≡ false → c.task ≡ None
-    → new.dbs ≡ c.dbs → new.number ≡ c.number → new.task ≡ None → made_by e ≡ [] → leaves_task s.reply ≡ false → begun + length (begun_by e) ≡ begun'
+pub recalls_still : (c new : Client) (begun begun' : ℕ) (h : History) (e : Event) (s : Said) (x : Choice) → Recalls c begun h → is_none c.latest ≡ false → c.task ≡ None
+    → new.latest ≡ c.latest → new.task ≡ None → made_by e ≡ [] → leaves_task s.reply ≡ false → begun + length (begun_by e) ≡ begun'
     → Recalls new begun' (then_said h e s x)
-recalls_still c new begun begun' h e s x r z t dbs number task made leaves count = record {
-  empty = nil_then h.events e ∙ sym (ap (λ n. (n == 0) && is_none new.task) number ∙ ap (λ (b : Bool). b && is_none new.task) z);
+recalls_still c new begun begun' h e s x r z t latest task made leaves count = record {
+  empty = nil_then h.events e ∙ sym (ap (λ (o : Option Latest). is_none o && is_none new.task) latest ∙ ap (λ (b : Bool). b && is_none new.task) z);
   runs = runs_then false h.saids s ∙ leaves ∙ sym (ap is_some task);
   begun_is = ap length (begun_then h.events e) ∙ length-append (begun_names h.events) (begun_by e) ∙ ap (λ n. n + length (begun_by e)) r.begun_is ∙ count;
-  made_count = ap length (no_more) ∙ r.made_count ∙ ap (λ k. length c.dbs.items + length (making k)) t ∙ ap (λ v. length v.items + 0) (sym dbs) ∙ ap (λ k. length new.dbs.items + length (making k)) (sym task);
-  made = λ name. ap (has_name name) no_more ∙ r.made name ∙ ap (λ k. is_some (keyed db_name name c.dbs.items) || has_name name (making k)) t ∙ ap (λ v. is_some (keyed db_name name v.items) || false) (sym dbs)
-      ∙ ap (λ k. is_some (keyed db_name name new.dbs.items) || has_name name (making k)) (sym task);
+  made_count = ap length (no_more) ∙ r.made_count ∙ ap (λ k. length (dbs_of c) + length (making k)) t ∙ ap (λ (o : Option Latest). length (dbs_in o) + 0) (sym latest) ∙ ap (λ k. length (dbs_of new) + length (making k)) (sym task);
+  made = λ name. ap (has_name name) no_more ∙ r.made name ∙ ap (λ k. is_some (keyed db_name name (dbs_of c)) || has_name name (making k)) t ∙ ap (λ (o : Option Latest). is_some (keyed db_name name (dbs_in o)) || false) (sym latest)
+      ∙ ap (λ k. is_some (keyed db_name name (dbs_of new)) || has_name name (making k)) (sym task);
 }
   where
     no_more : made_names (h.events ++ e ∷ []) ≡ made_names h.events
     no_more = made_then h.events e ∙ ap (λ l. made_names h.events ++ l) made ∙ append-nil (made_names h.events)
 
 -- an event that makes no database, whatever it does to the task
-pub recalls_kept : (c new : Client) (begun begun' : ℕ) (h : History) (e : Event) (s : Said) (x : Choice) → Recalls c begun h → ((new.number == 0) && is_none new.task) ≡ false
-    → leaves_task s.reply ≡ is_some new.task → new.dbs ≡ c.dbs → making new.task ≡ making c.task → made_by e ≡ [] → begun + length (begun_by e) ≡ begun'
+pub recalls_kept : (c new : Client) (begun begun' : ℕ) (h : History) (e : Event) (s : Said) (x : Choice) → Recalls c begun h → (is_none new.latest && is_none new.task) ≡ false
+    → leaves_task s.reply ≡ is_some new.task → new.latest ≡ c.latest → making new.task ≡ making c.task → made_by e ≡ [] → begun + length (begun_by e) ≡ begun'
     → Recalls new begun' (then_said h e s x)
-recalls_kept c new begun begun' h e s x r z leaves dbs task made count = record {
+recalls_kept c new begun begun' h e s x r z leaves latest task made count = record {
   empty = nil_then h.events e ∙ sym z;
   runs = runs_then false h.saids s ∙ leaves;
   begun_is = ap length (begun_then h.events e) ∙ length-append (begun_names h.events) (begun_by e) ∙ ap (λ n. n + length (begun_by e)) r.begun_is ∙ count;
-  made_count = ap length no_more ∙ r.made_count ∙ ap (λ k. length c.dbs.items + length k) (sym task) ∙ ap (λ v. length v.items + length (making new.task)) (sym dbs);
-  made = λ name. ap (has_name name) no_more ∙ r.made name ∙ ap (λ k. is_some (keyed db_name name c.dbs.items) || has_name name k) (sym task)
-      ∙ ap (λ v. is_some (keyed db_name name v.items) || has_name name (making new.task)) (sym dbs);
+  made_count = ap length no_more ∙ r.made_count ∙ ap (λ k. length (dbs_of c) + length k) (sym task) ∙ ap (λ (o : Option Latest). length (dbs_in o) + length (making new.task)) (sym latest);
+  made = λ name. ap (has_name name) no_more ∙ r.made name ∙ ap (λ k. is_some (keyed db_name name (dbs_of c)) || has_name name k) (sym task)
+      ∙ ap (λ (o : Option Latest). is_some (keyed db_name name (dbs_in o)) || has_name name (making new.task)) (sym latest);
 }
   where
     no_more : made_names (h.events ++ e ∷ []) ≡ made_names h.events
     no_more = made_then h.events e ∙ ap (λ l. made_names h.events ++ l) made ∙ append-nil (made_names h.events)
+
+-- the manifest that a client keeps is the last one
+pub kept_last : (w : World) (l : Latest) → IsGood w → w.client.latest ≡ Some l → last_of (history_of (log_of w.store)) ≡ Some l.manifest
+kept_last w l g is = let k = subst (FitsLatest (log_of w.store) w.spec w.client.id) is g.fits.latest in k.last
 
 -- ---- begin
 
@@ -77,33 +86,32 @@ recalls_kept c new begun begun' h e s x r z leaves dbs task made count = record 
 abbrev pub no_choice : Choice
 no_choice = record { name = numbered 0; second = false }
 
-begun_at : (w : World) (ts : Vec Txn Global) (db : List ℕ) (d : DbEntry) (n : ℕ) → IsGood w → allows_ask w (ask.Begin db) ≡ true → keyed db_name db w.client.dbs.items ≡ Some d → n ≡ length w.client.txns.items + 1
-    → ts.items ≡ w.client.txns.items ++ txn_of w.client.number db d ∷ [] → (h : History) (a : m.State) → Mirrors w h a
+begun_at : (w : World) (ts : Vec Txn Global) (db : List ℕ) (d : DbEntry) (n : ℕ) → IsGood w → allows_ask w (ask.Begin db) ≡ true → keyed db_name db (dbs_of w.client) ≡ Some d → n ≡ length w.client.txns.items + 1
+    → ts.items ≡ w.client.txns.items ++ txn_of (number_of w.client) db d ∷ [] → (h : History) (a : m.State) → Mirrors w h a
     → (c : Choice) × (b : m.State) × Mirrors (record w { client = record w.client { txns = ts }; applied = w.applied + 1; begun = w.begun + 1 }) (then_said h (asked (ask.Begin db)) (record { published = None; reply = reply.Txn n }) c) b
 begun_at w ts db d n g al there number items h a mi =
-    let log = log_of w.store in
-    let vs = mi.shows.versions in
+    let past = history_of (log_of w.store) in
     let noted = mi.shows.noted in
     let parts = and_parts (is_idle w) (nat_lt w.begun 64) al in
     let i = idle w parts.0 in
     let client : Client = record w.client { txns = ts } in
-    let b = seen log w.spec client vs noted in
-    let few : length (seen_txns log 1 w.client.txns.items) < 64 = rw (length_seen log 1 w.client.txns.items) (omega (arith, g.begun, ltb-true w.begun 64 parts.1)) in
-    let same : b ≡ m.with_up (here_of log w.spec w.client vs noted) (record (seen_up log w.client) { txns = seen_txns log 1 w.client.txns.items ++ seen_txn log n (txn_of w.client.number db d) ∷ [] }) =
-    ap (λ (l : List m.Txn). m.with_up (here_of log w.spec w.client vs noted) (record (seen_up log w.client) { txns = l }))
-    (ap (seen_txns log 1) items ∙ seen_push log 1 w.client.txns.items (txn_of w.client.number db d)
-    ∙ ap (λ k. seen_txns log 1 w.client.txns.items ++ seen_txn log k (txn_of w.client.number db d) ∷ []) (add_comm 1 (length w.client.txns.items) ∙ sym number)) in
-    let least : m.IsLeastFree (numbers log 1 w.client.txns.items) n = subst (m.IsLeastFree (numbers log 1 w.client.txns.items)) (sym number) (next_number log w.client.txns.items) in
-    let next : Next (seen log w.spec w.client vs noted) (asked (ask.Begin db)) (record { published = None; reply = reply.Txn n }) no_choice b = (
-      here_of log w.spec w.client vs noted,
-      is_here log w.spec w.client vs noted,
+    let b = seen past w.spec client noted in
+    let few : length (seen_txns past 1 w.client.txns.items) < 64 = rw (length_seen past 1 w.client.txns.items) (omega (arith, g.begun, ltb-true w.begun 64 parts.1)) in
+    let same : b ≡ m.with_up (here_of past w.spec w.client noted) (record (seen_up past w.client) { txns = seen_txns past 1 w.client.txns.items ++ seen_txn past n (txn_of (number_of w.client) db d) ∷ [] }) =
+    ap (λ (l : List m.Txn). m.with_up (here_of past w.spec w.client noted) (record (seen_up past w.client) { txns = l }))
+    (ap (seen_txns past 1) items ∙ seen_push past 1 w.client.txns.items (txn_of (number_of w.client) db d)
+    ∙ ap (λ k. seen_txns past 1 w.client.txns.items ++ seen_txn past k (txn_of (number_of w.client) db d) ∷ []) (add_comm 1 (length w.client.txns.items) ∙ sym number)) in
+    let least : m.IsLeastFree (numbers past 1 w.client.txns.items) n = subst (m.IsLeastFree (numbers past 1 w.client.txns.items)) (sym number) (next_number past w.client.txns.items) in
+    let next : Next (seen past w.spec w.client noted) (asked (ask.Begin db)) (record { published = None; reply = reply.Txn n }) no_choice b = (
+      here_of past w.spec w.client noted,
+      is_here past w.spec w.client noted,
       (
         refl,
         (
-          record { base = w.client.number; commits = [] },
-          database_of log d,
-          view_seen log w.spec w.client vs noted db ∙ ap (option_map (λ (e : DbEntry). let v : m.View = record { base = w.client.number; commits = [] } in v)) there,
-          database_seen log w.spec w.client vs noted mi.shows.ends mi.shows.number i.created db ∙ ap (option_map (database_of log)) there,
+          record { base = number_of w.client; commits = [] },
+          database_of past d,
+          view_seen past w.spec w.client noted db ∙ ap (option_map (λ (e : DbEntry). let v : m.View = record { base = number_of w.client; commits = [] } in v)) there,
+          database_seen past w.spec w.client noted i.created.0 mi.versions.read (kept_last w i.created.0 g i.created.1) i.created.1 db ∙ ap (option_map (database_of past)) there,
           few,
           least,
           same,
@@ -114,26 +122,25 @@ begun_at w ts db d n g al there number items h a mi =
       b,
       moved w (record w { client = client; applied = w.applied + 1; begun = w.begun + 1 }) h a b (asked (ask.Begin db)) (record { published = None; reply = reply.Txn n }) no_choice mi
           (record { spec = refl; applied = refl }) (sym (allowed w (asked (ask.Begin db)) h a mi) ∙ al) (subst (λ x. Next x (asked (ask.Begin db)) (record { published = None; reply = reply.Txn n }) no_choice b) (sym mi.shows.is) next)
-          (omega arith) (inl refl) (record { versions = vs; noted = noted; is = refl; number = mi.shows.number; ends = mi.shows.ends; ids = mi.shows.ids })
-          (recalls_still w.client client w.begun (w.begun + 1) h (asked (ask.Begin db)) (record { published = None; reply = reply.Txn n }) no_choice mi.recalls i.created i.task refl refl i.task refl refl refl),
+          (omega arith) (inl refl) (record { noted = noted; is = refl }) mi.versions.read
+          (recalls_still w.client client w.begun (w.begun + 1) h (asked (ask.Begin db)) (record { published = None; reply = reply.Txn n }) no_choice mi.recalls i.some i.task refl i.task refl refl refl),
     )
 
-begun_nothing : (w : World) (db : List ℕ) → IsGood w → allows_ask w (ask.Begin db) ≡ true → keyed db_name db w.client.dbs.items ≡ None → (h : History) (a : m.State) → Mirrors w h a
+begun_nothing : (w : World) (db : List ℕ) → IsGood w → allows_ask w (ask.Begin db) ≡ true → keyed db_name db (dbs_of w.client) ≡ None → (h : History) (a : m.State) → Mirrors w h a
     → (c : Choice) × (b : m.State) × Mirrors (record w { applied = w.applied + 1; begun = w.begun + 1 }) (then_said h (asked (ask.Begin db)) (record { published = None; reply = reply.NoDatabase }) c) b
 begun_nothing w db g al there h a mi =
-    let log = log_of w.store in
-    let vs = mi.shows.versions in
+    let past = history_of (log_of w.store) in
     let noted = mi.shows.noted in
     let i = idle w (and_parts (is_idle w) (nat_lt w.begun 64) al).0 in
-    let b = seen log w.spec w.client vs noted in
+    let b = seen past w.spec w.client noted in
     let next : Next b (asked (ask.Begin db)) (record { published = None; reply = reply.NoDatabase }) no_choice b =
-    (here_of log w.spec w.client vs noted, is_here log w.spec w.client vs noted, (refl, (view_seen log w.spec w.client vs noted db ∙ ap (option_map (λ (e : DbEntry). let v : m.View = record { base = w.client.number; commits = [] } in v)) there, refl))) in (
+    (here_of past w.spec w.client noted, is_here past w.spec w.client noted, (refl, (view_seen past w.spec w.client noted db ∙ ap (option_map (λ (e : DbEntry). let v : m.View = record { base = number_of w.client; commits = [] } in v)) there, refl))) in (
       no_choice,
       b,
       moved w (record w { applied = w.applied + 1; begun = w.begun + 1 }) h a b (asked (ask.Begin db)) (record { published = None; reply = reply.NoDatabase }) no_choice mi
           (record { spec = refl; applied = refl }) (sym (allowed w (asked (ask.Begin db)) h a mi) ∙ al) (subst (λ x. Next x (asked (ask.Begin db)) (record { published = None; reply = reply.NoDatabase }) no_choice b) (sym mi.shows.is) next)
-          (omega arith) (inl refl) (record { versions = vs; noted = noted; is = refl; number = mi.shows.number; ends = mi.shows.ends; ids = mi.shows.ids })
-          (recalls_still w.client w.client w.begun (w.begun + 1) h (asked (ask.Begin db)) (record { published = None; reply = reply.NoDatabase }) no_choice mi.recalls i.created i.task refl refl i.task refl refl refl),
+          (omega arith) (inl refl) (record { noted = noted; is = refl }) mi.versions.read
+          (recalls_still w.client w.client w.begun (w.begun + 1) h (asked (ask.Begin db)) (record { published = None; reply = reply.NoDatabase }) no_choice mi.recalls i.some i.task refl i.task refl refl refl),
     )
 
 pub begin_applies : (w : World) (client : Client) (db : List ℕ) (r : Reply) → IsGood w → allows_ask w (ask.Begin db) ≡ true → Begun w.client client db r → (h : History) (a : m.State) → Mirrors w h a
@@ -149,22 +156,22 @@ begin_applies w client db _ g al be h a mi = absurd be
 -- ---- read
 
 -- the transaction of a number
-find_seen : (log : List Entry) (n : ℕ) (ts : List Txn) (k : ℕ) (i : ℕ) → n + i ≡ k → m.txn_at k (seen_txns log n ts) ≡ option_map (seen_txn log k) (slice_get ts i)
-find_seen log n [] k i e = refl
-find_seen log n (t ∷ ts) k zero e =
-    ap (λ (b : Bool). cond b (Some (seen_txn log n t)) (m.txn_at k (seen_txns log (n + 1) ts))) (eq-eqb n k (sym (add-zero n) ∙ e)) ∙ ap (λ j. Some (seen_txn log j t)) (sym (add-zero n) ∙ e)
-find_seen log n (t ∷ ts) k (suc i) e =
-    ap (λ (b : Bool). cond b (Some (seen_txn log n t)) (m.txn_at k (seen_txns log (n + 1) ts))) (ne_eqb n k (λ x. absurd (omega arith))) ∙ find_seen log (n + 1) ts k i (omega arith)
+find_seen : (past : List Item) (n : ℕ) (ts : List Txn) (k : ℕ) (i : ℕ) → n + i ≡ k → m.txn_at k (seen_txns past n ts) ≡ option_map (seen_txn past k) (slice_get ts i)
+find_seen past n [] k i e = refl
+find_seen past n (t ∷ ts) k zero e =
+    ap (λ (b : Bool). cond b (Some (seen_txn past n t)) (m.txn_at k (seen_txns past (n + 1) ts))) (eq-eqb n k (sym (add-zero n) ∙ e)) ∙ ap (λ j. Some (seen_txn past j t)) (sym (add-zero n) ∙ e)
+find_seen past n (t ∷ ts) k (suc i) e =
+    ap (λ (b : Bool). cond b (Some (seen_txn past n t)) (m.txn_at k (seen_txns past (n + 1) ts))) (ne_eqb n k (λ x. absurd (omega arith))) ∙ find_seen past (n + 1) ts k i (omega arith)
 
-none_seen : (log : List Entry) (n : ℕ) (ts : List Txn) → 0 < n → m.txn_at 0 (seen_txns log n ts) ≡ None
-none_seen log n [] lt = refl
-none_seen log n (t ∷ ts) lt = ap (λ (b : Bool). cond b (Some (seen_txn log n t)) (m.txn_at 0 (seen_txns log (n + 1) ts))) (ne_eqb n 0 (λ x. absurd (omega arith))) ∙ none_seen log (n + 1) ts (omega arith)
+none_seen : (past : List Item) (n : ℕ) (ts : List Txn) → 0 < n → m.txn_at 0 (seen_txns past n ts) ≡ None
+none_seen past n [] lt = refl
+none_seen past n (t ∷ ts) lt = ap (λ (b : Bool). cond b (Some (seen_txn past n t)) (m.txn_at 0 (seen_txns past (n + 1) ts))) (ne_eqb n 0 (λ x. absurd (omega arith))) ∙ none_seen past (n + 1) ts (omega arith)
 
-pub txn_seen : (log : List Entry) (ts : List Txn) (k : ℕ) → m.txn_at k (seen_txns log 1 ts) ≡ option_map (seen_txn log k) (numbered_txn k ts)
-txn_seen log ts zero = none_seen log 1 ts (omega arith)
-txn_seen log ts (suc k) =
-    find_seen log 1 ts (suc k) (suc k - 1) (omega arith)
-    ∙ ap (λ (b : Bool). option_map (seen_txn log (suc k)) (cond b None (slice_get ts (suc k - 1)))) (sym (ne_eqb (suc k) 0 (λ e. absurd (omega arith))))
+pub txn_seen : (past : List Item) (ts : List Txn) (k : ℕ) → m.txn_at k (seen_txns past 1 ts) ≡ option_map (seen_txn past k) (numbered_txn k ts)
+txn_seen past ts zero = none_seen past 1 ts (omega arith)
+txn_seen past ts (suc k) =
+    find_seen past 1 ts (suc k) (suc k - 1) (omega arith)
+    ∙ ap (λ (b : Bool). option_map (seen_txn past (suc k)) (cond b None (slice_get ts (suc k - 1)))) (sym (ne_eqb (suc k) 0 (λ e. absurd (omega arith))))
 
 pub length_pages : (n ps : ℕ) (bytes : List ℕ) → length (pages_of n ps bytes) ≡ n
 length_pages zero ps bytes = refl
@@ -172,72 +179,70 @@ length_pages (suc n) ps bytes = ap suc (length_pages n ps (drop ps bytes))
 
 -- a read that starts no task
 read_still : (w : World) (txn p : ℕ) (r : Reply) → allows_ask w (ask.Read txn p) ≡ true → leaves_task r ≡ false → (h : History) (a : m.State) (mi : Mirrors w h a)
-    → Reads (here_of (log_of w.store) w.spec w.client mi.shows.versions mi.shows.noted) txn p r (seen (log_of w.store) w.spec w.client mi.shows.versions mi.shows.noted)
+    → Reads (here_of (history_of (log_of w.store)) w.spec w.client mi.shows.noted) txn p r (seen (history_of (log_of w.store)) w.spec w.client mi.shows.noted)
     → (c : Choice) × (b : m.State) × Mirrors (record w { applied = w.applied + 1 }) (then_said h (asked (ask.Read txn p)) (record { published = None; reply = r }) c) b
 read_still w txn p r al leaves h a mi reads =
-    let log = log_of w.store in
-    let vs = mi.shows.versions in
+    let past = history_of (log_of w.store) in
     let noted = mi.shows.noted in
     let i = idle w al in
-    let b = seen log w.spec w.client vs noted in
-    let next : Next b (asked (ask.Read txn p)) (record { published = None; reply = r }) no_choice b = (here_of log w.spec w.client vs noted, is_here log w.spec w.client vs noted, (refl, reads)) in (
+    let b = seen past w.spec w.client noted in
+    let next : Next b (asked (ask.Read txn p)) (record { published = None; reply = r }) no_choice b = (here_of past w.spec w.client noted, is_here past w.spec w.client noted, (refl, reads)) in (
       no_choice,
       b,
       moved w (record w { applied = w.applied + 1 }) h a b (asked (ask.Read txn p)) (record { published = None; reply = r }) no_choice mi
           (record { spec = refl; applied = refl }) (sym (allowed w (asked (ask.Read txn p)) h a mi) ∙ al) (subst (λ x. Next x (asked (ask.Read txn p)) (record { published = None; reply = r }) no_choice b) (sym mi.shows.is) next)
-          (omega arith) (inl refl) (record { versions = vs; noted = noted; is = refl; number = mi.shows.number; ends = mi.shows.ends; ids = mi.shows.ids })
-          (recalls_still w.client w.client w.begun w.begun h (asked (ask.Read txn p)) (record { published = None; reply = r }) no_choice mi.recalls i.created i.task refl refl i.task refl leaves (add-zero w.begun)),
+          (omega arith) (inl refl) (record { noted = noted; is = refl }) mi.versions.read
+          (recalls_still w.client w.client w.begun w.begun h (asked (ask.Read txn p)) (record { published = None; reply = r }) no_choice mi.recalls i.some i.task refl i.task refl leaves (add-zero w.begun)),
     )
 
 -- a page inside a transaction that holds nothing is not at hand
-not_at_hand : (a : m.State) (log : List Entry) (k p : ℕ) (t : Txn) → p ≤ t.pages → m.is_at_hand a (seen_txn log k t) p ≡ false
-not_at_hand a log k p t le =
-    ap (λ (b : Bool). not (b && true) || false) (ap (nat_le p) (length_pages t.pages t.page_size (joined log t.blocks)) ∙ le-leb p t.pages le)
+not_at_hand : (a : m.State) (past : List Item) (k p : ℕ) (t : Txn) → p ≤ t.pages → m.is_at_hand a (seen_txn past k t) p ≡ false
+not_at_hand a past k p t le =
+    ap (λ (b : Bool). not (b && true) || false) (ap (nat_le p) (length_pages t.pages t.page_size (joined past t.blocks)) ∙ le-leb p t.pages le)
 
 read_starts : (w : World) (txn p : ℕ) (t : Txn) → allows_ask w (ask.Read txn p) ≡ true → numbered_txn txn w.client.txns.items ≡ Some t → 1 ≤ p → p ≤ t.pages → (h : History) (a : m.State) → Mirrors w h a
     → (c : Choice) × (b : m.State) × Mirrors (record w { client = record w.client { task = Some (task.Read txn p) }; applied = w.applied + 1 }) (then_said h (asked (ask.Read txn p)) (record { published = None; reply = reply.Task 1 1 }) c) b
 read_starts w txn p t al there one le h a mi =
-    let log = log_of w.store in
-    let vs = mi.shows.versions in
+    let past = history_of (log_of w.store) in
     let noted = mi.shows.noted in
     let i = idle w al in
     let client : Client = record w.client { task = Some (task.Read txn p) } in
-    let b = seen log w.spec client vs noted in
-    let none : seen_tasks w.client.number w.client.task ≡ [] = ap (seen_tasks w.client.number) i.task in
-    let k : m.Task = seen_task w.client.number (task.Read txn p) in
-    let same : b ≡ m.with_up (here_of log w.spec w.client vs noted) (record (seen_up log w.client) { tasks = seen_tasks w.client.number w.client.task ++ k ∷ [] }) =
-    ap (λ (l : List m.Task). m.with_up (here_of log w.spec w.client vs noted) (record (seen_up log w.client) { tasks = l ++ k ∷ [] })) (sym none) in
-    let has : HasPage (here_of log w.spec w.client vs noted) txn p (seen_txn log txn t) = record {
-      is_open = txn_seen log w.client.txns.items txn ∙ ap (option_map (seen_txn log txn)) there;
+    let b = seen past w.spec client noted in
+    let none : seen_tasks w.client.task ≡ [] = ap seen_tasks i.task in
+    let k : m.Task = seen_task (task.Read txn p) in
+    let same : b ≡ m.with_up (here_of past w.spec w.client noted) (record (seen_up past w.client) { tasks = seen_tasks w.client.task ++ k ∷ [] }) =
+    ap (λ (l : List m.Task). m.with_up (here_of past w.spec w.client noted) (record (seen_up past w.client) { tasks = l ++ k ∷ [] })) (sym none) in
+    let has : HasPage (here_of past w.spec w.client noted) txn p (seen_txn past txn t) = record {
+      is_open = txn_seen past w.client.txns.items txn ∙ ap (option_map (seen_txn past txn)) there;
       from_one = one;
-      inside = rw (length_pages t.pages t.page_size (joined log t.blocks)) le;
+      inside = rw (length_pages t.pages t.page_size (joined past t.blocks)) le;
     } in
-    let least : m.IsLeastFree (map (λ (k : m.Task). k.number) (seen_tasks w.client.number w.client.task)) 1 =
+    let least : m.IsLeastFree (map (λ (k : m.Task). k.number) (seen_tasks w.client.task)) 1 =
     subst (λ (l : List m.Task). m.IsLeastFree (map (λ (k : m.Task). k.number) l) 1) (sym none) (record { from_one = omega arith; free = refl; least = λ k low high. absurd (omega arith) }) in
-    let few : length (seen_tasks w.client.number w.client.task) < 16 = subst (λ (l : List m.Task). length l < 16) (sym none) (omega arith) in
-    let next : Next (seen log w.spec w.client vs noted) (asked (ask.Read txn p)) (record { published = None; reply = reply.Task 1 1 }) no_choice b =
-    (here_of log w.spec w.client vs noted, is_here log w.spec w.client vs noted, (refl, (seen_txn log txn t, has, not_at_hand (seen log w.spec w.client vs noted) log txn p t le, few, least, refl, same))) in (
+    let few : length (seen_tasks w.client.task) < 16 = subst (λ (l : List m.Task). length l < 16) (sym none) (omega arith) in
+    let next : Next (seen past w.spec w.client noted) (asked (ask.Read txn p)) (record { published = None; reply = reply.Task 1 1 }) no_choice b =
+    (here_of past w.spec w.client noted, is_here past w.spec w.client noted, (refl, (seen_txn past txn t, has, not_at_hand (seen past w.spec w.client noted) past txn p t le, few, least, refl, same))) in (
       no_choice,
       b,
       moved w (record w { client = client; applied = w.applied + 1 }) h a b (asked (ask.Read txn p)) (record { published = None; reply = reply.Task 1 1 }) no_choice mi
           (record { spec = refl; applied = refl }) (sym (allowed w (asked (ask.Read txn p)) h a mi) ∙ al) (subst (λ x. Next x (asked (ask.Read txn p)) (record { published = None; reply = reply.Task 1 1 }) no_choice b) (sym mi.shows.is) next)
-          (omega arith) (inl refl) (record { versions = vs; noted = noted; is = refl; number = mi.shows.number; ends = mi.shows.ends; ids = mi.shows.ids })
-          (recalls_kept w.client client w.begun w.begun h (asked (ask.Read txn p)) (record { published = None; reply = reply.Task 1 1 }) no_choice mi.recalls (ap (λ (b : Bool). b && false) i.created) refl refl (sym (ap making i.task)) refl (add-zero w.begun)),
+          (omega arith) (inl refl) (record { noted = noted; is = refl }) mi.versions.read
+          (recalls_kept w.client client w.begun w.begun h (asked (ask.Read txn p)) (record { published = None; reply = reply.Task 1 1 }) no_choice mi.recalls (ap (λ (b : Bool). b && false) i.some) refl refl (sym (ap making i.task)) refl (add-zero w.begun)),
     )
 
 pub read_applies : (w : World) (client : Client) (txn p : ℕ) (r : Reply) → allows_ask w (ask.Read txn p) ≡ true → ReadStarts w.client client txn p r → (h : History) (a : m.State) → Mirrors w h a
     → (c : Choice) × (b : m.State) × Mirrors (record w { client = client; applied = w.applied + 1 }) (then_said h (asked (ask.Read txn p)) (record { published = None; reply = r }) c) b
 read_applies w client txn p reply.NoTxn al rs h a mi =
     subst (λ (x : Client). (c : Choice) × (b : m.State) × Mirrors (record w { client = x; applied = w.applied + 1 }) (then_said h (asked (ask.Read txn p)) (record { published = None; reply = reply.NoTxn }) c) b) (sym rs.1)
-    (read_still w txn p reply.NoTxn al refl h a mi (txn_seen (log_of w.store) w.client.txns.items txn ∙ ap (option_map (seen_txn (log_of w.store) txn)) rs.0, refl))
+    (read_still w txn p reply.NoTxn al refl h a mi (txn_seen (history_of (log_of w.store)) w.client.txns.items txn ∙ ap (option_map (seen_txn (history_of (log_of w.store)) txn)) rs.0, refl))
 read_applies w client txn p reply.BadPage al rs h a mi =
     subst (λ (x : Client). (c : Choice) × (b : m.State) × Mirrors (record w { client = x; applied = w.applied + 1 }) (then_said h (asked (ask.Read txn p)) (record { published = None; reply = reply.BadPage }) c) b) (sym rs.3)
     (read_still w txn p reply.BadPage al refl h a mi (
-      seen_txn (log_of w.store) txn rs.0,
-      txn_seen (log_of w.store) w.client.txns.items txn ∙ ap (option_map (seen_txn (log_of w.store) txn)) rs.1,
-      elim rs.2 as (λ _. (p ≡ 0) ⊎ (length (pages_of rs.0.pages rs.0.page_size (joined (log_of w.store) rs.0.blocks)) < p)) [
+      seen_txn (history_of (log_of w.store)) txn rs.0,
+      txn_seen (history_of (log_of w.store)) w.client.txns.items txn ∙ ap (option_map (seen_txn (history_of (log_of w.store)) txn)) rs.1,
+      elim rs.2 as (λ _. (p ≡ 0) ⊎ (length (pages_of rs.0.pages rs.0.page_size (joined (history_of (log_of w.store)) rs.0.blocks)) < p)) [
         | inl z ↦ inl z
-        | inr lt ↦ inr (rw (length_pages rs.0.pages rs.0.page_size (joined (log_of w.store) rs.0.blocks)) lt)
+        | inr lt ↦ inr (rw (length_pages rs.0.pages rs.0.page_size (joined (history_of (log_of w.store)) rs.0.blocks)) lt)
       ],
       refl,
     ))
@@ -268,7 +273,7 @@ pub record ReadPlace (w : World) (txn p : ℕ) : Type 0 where
   pub id : Id16
   pub blocks : found.blocks ≡ id ∷ []
   pub bytes : List ℕ
-  pub has : HasBlock (log_of w.store) id bytes
+  pub has : PutOnce (log_of w.store) id bytes
   pub whole : length bytes ≡ w.spec.block
   pub fits : found.pages * w.spec.page ≤ w.spec.block
 
@@ -289,7 +294,7 @@ number_at ts (suc k) i t e g =
     ap (λ (b : Bool). cond b None (slice_get ts (suc k - 1))) (ne_eqb (suc k) 0 (λ x. absurd (omega arith))) ∙ ap (slice_get ts) same ∙ g
 
 lie_place : (log : List Entry) (spec : WorldSpec) (pages p : ℕ) (blocks : List Id16) → 1 ≤ p → p ≤ pages → Lie log spec pages blocks
-    → (i : Id16) × (bytes : List ℕ) × (blocks ≡ i ∷ []) × HasBlock log i bytes × (length bytes ≡ spec.block) × (pages * spec.page ≤ spec.block)
+    → (i : Id16) × (bytes : List ℕ) × (blocks ≡ i ∷ []) × PutOnce log i bytes × (length bytes ≡ spec.block) × (pages * spec.page ≤ spec.block)
 lie_place log spec pages p [] one le l = absurd (omega arith)
 lie_place log spec pages p (i ∷ []) one le l = (i, l.0, refl, l.1, l.2, l.3)
 lie_place log spec pages p (i ∷ j ∷ is) one le l = absurd l
@@ -314,49 +319,45 @@ read_place w txn p g runs =
     }
 
 -- the page of the transaction's image
-page_read : (log : List Entry) (t : Txn) (i : Id16) (bytes : List ℕ) (p : ℕ) → 1 ≤ p → p ≤ t.pages → t.blocks ≡ i ∷ [] → HasBlock log i bytes
-    → page_of (image_of log t.pages t.page_size t.blocks) p ≡ Some (take t.page_size (drop ((p - 1) * t.page_size) bytes))
+page_read : (log : List Entry) (t : Txn) (i : Id16) (bytes : List ℕ) (p : ℕ) → 1 ≤ p → p ≤ t.pages → t.blocks ≡ i ∷ [] → PutOnce log i bytes
+    → page_of (image_of (history_of log) t.pages t.page_size t.blocks) p ≡ Some (take t.page_size (drop ((p - 1) * t.page_size) bytes))
 page_read log t i bytes p one le blocks has =
-    let whole : joined log t.blocks ≡ bytes = ap (joined log) blocks ∙ ap (λ (o : Option (List ℕ)). unwrap_or o [] ++ []) has.first ∙ append-nil bytes in
-    ap (λ (b : Bool). cond b None (slice_get (pages_of t.pages t.page_size (joined log t.blocks)) (p - 1))) (ne_eqb p 0 (λ e. absurd (omega arith)))
+    let whole : joined (history_of log) t.blocks ≡ bytes = ap (joined (history_of log)) blocks ∙ ap (λ (o : Option (List ℕ)). unwrap_or o [] ++ []) has.first ∙ append-nil bytes in
+    ap (λ (b : Bool). cond b None (slice_get (pages_of t.pages t.page_size (joined (history_of log) t.blocks)) (p - 1))) (ne_eqb p 0 (λ e. absurd (omega arith)))
     ∙ ap (λ l. slice_get (pages_of t.pages t.page_size l) (p - 1)) whole ∙ page_get t.pages t.page_size bytes (p - 1) (omega arith)
 
 pub step_read_applies : (w : World) (store : MemStore) (txn p : ℕ) (bytes : List ℕ) → IsGood w → w.client.task ≡ Some (task.Read txn p) → (place : ReadPlace w txn p) → log_of store ≡ log_of w.store
     → bytes ≡ take place.found.page_size (drop ((p - 1) * place.found.page_size) place.bytes) → (h : History) (a : m.State) → Mirrors w h a
     → (c : Choice) × (b : m.State) × Mirrors (record w { store = store; client = record w.client { task = None }; applied = w.applied + 1 }) (then_said h (asked (ask.Step 1)) (record { published = None; reply = reply.Page bytes }) c) b
 step_read_applies w store txn p bytes g runs place same_log is h a mi =
-    let log = log_of w.store in
-    let vs = mi.shows.versions in
+    let past = history_of (log_of w.store) in
     let noted = mi.shows.noted in
     let client : Client = record w.client { task = None } in
-    let b = seen log w.spec client vs noted in
-    let k : m.Task = seen_task w.client.number (task.Read txn p) in
-    let here = here_of log w.spec w.client vs noted in
-    let one : seen_tasks w.client.number w.client.task ≡ k ∷ [] = ap (seen_tasks w.client.number) runs in
-    let gone : b ≡ m.with_up here (record (seen_up log w.client) { tasks = m.without_task 1 (seen_tasks w.client.number w.client.task) }) =
-    ap (λ (l : List m.Task). m.with_up here (record (seen_up log w.client) { tasks = m.without_task 1 l })) (sym one) in
-    let has : HasPage here txn p (seen_txn log txn place.found) = record {
-      is_open = txn_seen log w.client.txns.items txn ∙ ap (option_map (seen_txn log txn)) place.is_open;
+    let b = seen past w.spec client noted in
+    let k : m.Task = seen_task (task.Read txn p) in
+    let here = here_of past w.spec w.client noted in
+    let one : seen_tasks w.client.task ≡ k ∷ [] = ap seen_tasks runs in
+    let gone : b ≡ m.with_up here (record (seen_up past w.client) { tasks = m.without_task 1 (seen_tasks w.client.task) }) =
+    ap (λ (l : List m.Task). m.with_up here (record (seen_up past w.client) { tasks = m.without_task 1 l })) (sym one) in
+    let has : HasPage here txn p (seen_txn past txn place.found) = record {
+      is_open = txn_seen past w.client.txns.items txn ∙ ap (option_map (seen_txn past txn)) place.is_open;
       from_one = place.from_one;
-      inside = rw (length_pages place.found.pages place.found.page_size (joined log place.found.blocks)) place.inside;
+      inside = rw (length_pages place.found.pages place.found.page_size (joined past place.found.blocks)) place.inside;
     } in
-    let steps : Steps here (m.task_at 1 (seen_tasks w.client.number w.client.task)) outcome.Ok (record { published = None; reply = reply.Page bytes }) b =
+    let steps : Steps here (m.task_at 1 (seen_tasks w.client.task)) outcome.Ok (record { published = None; reply = reply.Page bytes }) b =
     subst (λ (l : List m.Task). Steps here (m.task_at 1 l) outcome.Ok (record { published = None; reply = reply.Page bytes }) b) (sym one)
-    ((refl, (seen_txn log txn place.found, has, page_read log place.found place.id place.bytes p place.from_one place.inside place.blocks place.has ∙ ap Some (sym is), gone))) in
-    let next : Next (seen log w.spec w.client vs noted) (asked (ask.Step 1)) (record { published = None; reply = reply.Page bytes }) no_choice b = (here, is_here log w.spec w.client vs noted, steps) in
-    let shows : Shows log w.spec w.names.count client b = record { versions = vs; noted = noted; is = refl; number = mi.shows.number; ends = mi.shows.ends; ids = mi.shows.ids } in
-    let created : (w.client.number == 0) ≡ false = ne_eqb w.client.number 0 (above w.client.number (subst (FitsTask log w.spec w.names.count w.client) runs g.fits.task).0) in
+    ((refl, (seen_txn past txn place.found, has, page_read (log_of w.store) place.found place.id place.bytes p place.from_one place.inside place.blocks place.has ∙ ap Some (sym is), gone))) in
+    let next : Next (seen past w.spec w.client noted) (asked (ask.Step 1)) (record { published = None; reply = reply.Page bytes }) no_choice b = (here, is_here past w.spec w.client noted, steps) in
+    let shows : Shows (log_of w.store) w.spec client b = record { noted = noted; is = refl } in
+    let created : is_none w.client.latest ≡ false = let k = (subst (FitsTask (log_of w.store) w.spec w.names.count w.client) runs g.fits.task).0 in ap is_none k.1 in
     let allowed_now : allows_ask w (ask.Step 1) ≡ true = ap (λ (o : Option Task). is_some o && true) runs in (
       no_choice,
       b,
       moved w (record w { store = store; client = client; applied = w.applied + 1 }) h a b (asked (ask.Step 1)) (record { published = None; reply = reply.Page bytes }) no_choice mi
           (record { spec = refl; applied = refl }) (sym (allowed w (asked (ask.Step 1)) h a mi) ∙ allowed_now) (subst (λ x. Next x (asked (ask.Step 1)) (record { published = None; reply = reply.Page bytes }) no_choice b) (sym mi.shows.is) next)
-          (omega arith) (inl refl) (subst (λ l. Shows l w.spec w.names.count client b) (sym same_log) shows)
+          (omega arith) (inl refl) (subst (λ l. Shows l w.spec client b) (sym same_log) shows) (subst (λ l. Always versions.Reads (history_of l)) (sym same_log) g.fits.reads)
           (recalls_kept w.client client w.begun w.begun h (asked (ask.Step 1)) (record { published = None; reply = reply.Page bytes }) no_choice mi.recalls (ap (λ (b : Bool). b && true) created) refl refl (sym (ap making runs)) refl (add-zero w.begun)),
     )
-  where
-    above : (n : ℕ) → 0 < n → n ≡ 0 → ⊥
-    above n lt e = omega arith
 
 pub none_some : {A : Type 0} (x : A) → None ≡ Some x → ⊥
 none_some x e = cc
@@ -388,13 +389,13 @@ each_keyed P k (x ∷ xs) d e f =
       | false ↦ λ g. each_keyed P k xs d e.1 g
     ] f
 
-begun_good : (w : World) (ts : Vec Txn Global) (db : List ℕ) (d : DbEntry) → IsGood w → allows_ask w (ask.Begin db) ≡ true → keyed db_name db w.client.dbs.items ≡ Some d
-    → ts.items ≡ w.client.txns.items ++ txn_of w.client.number db d ∷ [] → IsGood (record w { client = record w.client { txns = ts }; applied = w.applied + 1; begun = w.begun + 1 })
+begun_good : (w : World) (ts : Vec Txn Global) (db : List ℕ) (d : DbEntry) → IsGood w → allows_ask w (ask.Begin db) ≡ true → keyed db_name db (dbs_of w.client) ≡ Some d
+    → ts.items ≡ w.client.txns.items ++ txn_of (number_of w.client) db d ∷ [] → IsGood (record w { client = record w.client { txns = ts }; applied = w.applied + 1; begun = w.begun + 1 })
 begun_good w ts db d g al there items =
     let parts = and_parts (is_idle w) (nat_lt w.begun 64) al in
     let i = idle w parts.0 in
-    let entry = each_keyed (FitsDb (log_of w.store) w.spec) db w.client.dbs.items d g.fits.dbs there in
-    let more : length ts.items ≡ length w.client.txns.items + 1 = ap length items ∙ length-append w.client.txns.items (txn_of w.client.number db d ∷ []) in
+    let entry = each_keyed (FitsDb (log_of w.store) w.spec) db (dbs_of w.client) d g.fits.dbs there in
+    let more : length ts.items ≡ length w.client.txns.items + 1 = ap length items ∙ length-append w.client.txns.items (txn_of (number_of w.client) db d ∷ []) in
     let few : w.begun < 64 = ltb-true w.begun 64 parts.1 in
     record {
       names = g.names;
@@ -405,13 +406,15 @@ begun_good w ts db d g al there items =
       fits = record {
         one_client = g.fits.one_client;
         sizes = g.fits.sizes;
+        id = g.fits.id;
         few_txns = omega (arith, g.begun);
-        few_dbs = g.fits.few_dbs;
         dbs = g.fits.dbs;
-        txns = subst (Each (FitsTxn (log_of w.store) w.spec)) (sym items) (each_push (FitsTxn (log_of w.store) w.spec) w.client.txns.items (txn_of w.client.number db d) g.fits.txns (record { page_size = entry.page_size; blocks = entry.blocks }));
+        txns = subst (Each (FitsTxn (log_of w.store) w.spec)) (sym items) (each_push (FitsTxn (log_of w.store) w.spec) w.client.txns.items (txn_of (number_of w.client) db d) g.fits.txns (record { page_size = entry.page_size; blocks = entry.blocks }));
         task = subst (FitsTask (log_of w.store) w.spec w.names.count (record w.client { txns = ts })) (sym i.task) tt;
-        manifest = g.fits.manifest;
+        latest = g.fits.latest;
+        reads = g.fits.reads;
         put = g.fits.put;
+        ids = g.fits.ids;
       };
     }
 
@@ -456,18 +459,17 @@ reading_good w txn p t g al there one le =
       fits = record {
         one_client = g.fits.one_client;
         sizes = g.fits.sizes;
+        id = g.fits.id;
         few_txns = g.fits.few_txns;
-        few_dbs = g.fits.few_dbs;
         dbs = g.fits.dbs;
         txns = g.fits.txns;
-        task = (positive w.client.number (eqb-false w.client.number 0 i.created), numbered_page w.client.txns.items txn p t there one le);
-        manifest = g.fits.manifest;
+        task = (i.created, numbered_page w.client.txns.items txn p t there one le);
+        latest = g.fits.latest;
+        reads = g.fits.reads;
         put = g.fits.put;
+        ids = g.fits.ids;
       };
     }
-  where
-    positive : (n : ℕ) → (n ≡ 0 → ⊥) → 0 < n
-    positive n ne = omega (arith, ne)
 
 pub read_good : (w : World) (client : Client) (txn p : ℕ) (r : Reply) → IsGood w → allows_ask w (ask.Read txn p) ≡ true → ReadStarts w.client client txn p r → IsGood (record w { client = client; applied = w.applied + 1 })
 read_good w client txn p reply.NoTxn g al rs = subst (λ (x : Client). IsGood (record w { client = x; applied = w.applied + 1 })) (sym rs.1) (applied_good w w.begun g (omega arith))

@@ -1,5 +1,5 @@
 pub mod FirstPath
-pub mod Layout
+pub mod Known
 pub mod Moves
 pub mod Seen
 pub mod Stands

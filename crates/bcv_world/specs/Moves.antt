@@ -2,7 +2,9 @@
 use Rattle.std.specs.Prelude.{◌≡◌, ℕ, ◌+◌, ◌<◌, ◌≤◌, ◌⊎◌, List, [], ◌∷◌, ◌++◌, length, Option, Some, None, Result, IfOk, slice_get, if◌then◌else◌, ◌==◌, ◌-◌}
 use Rattle.std.specs.declared.alloc.AllocError.{AllocError}
 use Rattle.bcv_base.specs.declared.manifest.DbEntry.{DbEntry}
+use Rattle.bcv_base.specs.declared.id.Id16.{Id16}
 use Rattle.bcv_base.specs.Keyed.{keyed}
+use Rattle.bcv_base.specs.ManifestRules.{db_name}
 use Rattle.bcv_model.specs.declared.event.Event.{Event}
 use Rattle.bcv_model.specs.declared.reply.Reply.{Reply}
 use Rattle.bcv_model.specs.declared.reply.Reply.TheVariants as reply
@@ -17,7 +19,8 @@ use Rattle.bcv_world.specs.declared.task.Stage.{Stage}
 use Rattle.bcv_world.specs.declared.txn.Txn.{Txn}
 use Rattle.bcv_world.specs.declared.world.World.{World}
 use Rattle.bcv_world.specs.FirstPath.{stands}
-use Rattle.bcv_world.specs.Stands.{Mirrors, allows, db_name}
+use Rattle.bcv_world.specs.Known.{number_of, dbs_of}
+use Rattle.bcv_world.specs.Stands.{Mirrors, allows}
 
 -- where the world stood for a history, it stands for that history with the event and what is said of it
 abbrev pub Applies : World → World → Event → Result Said AllocError → Type 0
@@ -35,10 +38,10 @@ AllowsExactly w e = (h : History) (a : State) → Mirrors w h a → allows w e �
 
 -- ---- the client
 
--- a client that knows nothing yet
-pub record IsNew (c : Client) : Type 0 where
-  pub dbs : c.dbs.items ≡ []
-  pub number : c.number ≡ 0
+-- a client of an id that knows nothing yet
+pub record IsNew (name : Id16) (c : Client) : Type 0 where
+  pub id : c.id ≡ name
+  pub latest : c.latest ≡ None
   pub txns : c.txns.items ≡ []
   pub task : c.task ≡ None
 
@@ -49,8 +52,8 @@ txn_of number db d = record { db = db; base = number; page_size = d.page_size; p
 -- a begin adds a transaction where the database is known
 abbrev pub Begun : Client → Client → List ℕ → Reply → Type 0
 Begun old new db (reply.Txn n) =
-    (d : DbEntry) × (keyed db_name db old.dbs.items ≡ Some d) × (n ≡ length old.txns.items + 1) × (new.txns.items ≡ old.txns.items ++ txn_of old.number db d ∷ []) × (new ≡ record old { txns = new.txns })
-Begun old new db reply.NoDatabase = (keyed db_name db old.dbs.items ≡ None) × (new ≡ old)
+    (d : DbEntry) × (keyed db_name db (dbs_of old) ≡ Some d) × (n ≡ length old.txns.items + 1) × (new.txns.items ≡ old.txns.items ++ txn_of (number_of old) db d ∷ []) × (new ≡ record old { txns = new.txns })
+Begun old new db reply.NoDatabase = (keyed db_name db (dbs_of old) ≡ None) × (new ≡ old)
 Begun old new db _ = ⊥
 
 -- the transaction of a number, from 1

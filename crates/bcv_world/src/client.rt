@@ -2,37 +2,56 @@ ghost use Rattle.std.specs.Prelude.{◌≡◌, ◌<◌, ◌≤◌, length, inser
 ghost use Rattle.std.specs.Option.{option_copied};
 ghost use Rattle.bcv_base.specs.declared.manifest.DbEntry.{DbEntry};
 ghost use Rattle.bcv_base.specs.Keyed.{keyed, with_keyed};
+ghost use Rattle.bcv_base.specs.ManifestRules.{db_name};
+ghost use Rattle.bcv_world.specs.Known.{number_of, dbs_of};
 ghost use Rattle.bcv_world.specs.Moves.{Begun, IsNew, ReadStarts, numbered_txn, txn_of};
-ghost use Rattle.bcv_world.specs.Stands.{db_name};
 
 use crate::task::Task;
 use crate::txn::Txn;
-use bcv_base::{DbEntry, DbName, Seq};
+use bcv_base::{DbEntry, DbName, Id16, Latest, Seq};
 use bcv_model::Reply;
 use std::alloc::{AllocError, Global};
 
-/// A client: the databases of the last version that it knows, ascending by name, with the version's number and the
-/// manifest's etag; its transactions, the i-th under the number i from 1; and the task that runs.
+/// A client: its id, the last manifest that it put, if any; its transactions, the i-th under the number i from 1; and
+/// the task that runs.
 #[derive(Drop)]
 pub struct Client {
-    pub dbs: Vec<DbEntry>,
-    pub number: u64,
-    pub etag: u64,
+    pub id: Id16,
+    pub latest: Option<Latest>,
     pub txns: Vec<Txn>,
     pub task: Option<Task>,
 }
 
 impl Client {
     /// A client that knows nothing yet.
-    pub fn new(alloc: Global) -> Client
-        ensures { IsNew result }
+    pub fn new(alloc: Global, id: Id16) -> Client
+        ensures { IsNew id result }
     {
         Client {
-            dbs: Vec::new(alloc),
-            number: 0,
-            etag: 0,
+            id,
+            latest: None,
             txns: Vec::new(alloc),
             task: None,
+        }
+    }
+
+    /// The databases that it knows, ascending by name.
+    pub fn dbs(&self) -> &[DbEntry]
+        ensures { result.now ≡ dbs_of self.now }
+    {
+        match &self.latest {
+            Some(latest) => latest.manifest.dbs.items(),
+            None => &[],
+        }
+    }
+
+    /// The number of the version that lists them, or 0.
+    pub fn number(&self) -> u64
+        ensures { result ≡ number_of self.now }
+    {
+        match &self.latest {
+            Some(latest) => latest.manifest.number,
+            None => 0,
         }
     }
 
@@ -41,10 +60,10 @@ impl Client {
         requires { length self.old.txns.items < 64 }
         ensures { IfOk result (Begun self.old self.new db) }
     {
-        let Some(entry) = find_db(&self.dbs, &db) else {
+        let Some(entry) = find_db(self.dbs(), &db) else {
             return Ok(Reply::NoDatabase);
         };
-        let txn = txn_at(alloc, self.number, db, entry)?;
+        let txn = txn_at(alloc, self.number(), db, entry)?;
         self.txns.push(txn)?;
         Ok(Reply::Txn(self.txns.len() as u8))
     }

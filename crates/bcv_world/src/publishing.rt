@@ -8,12 +8,11 @@ ghost use Rattle.bcv_world.specs.Stands.{IsGood, allows_ask, KeepsAsk, asked};
 ghost use Rattle.bcv_world.specs.Moves.{Applies, Counts, IsCreating, IsMaking, made_entry};
 
 use crate::blocks::block_bytes;
-use crate::client::place_of;
-use crate::layout::write_layout;
-use crate::requests::{get_known, put_held};
+use crate::manifests::{first_manifest, next_manifest};
+use crate::requests::{get_manifest, put_held, put_manifest};
 use crate::task::{NewTask, Stage, Task};
 use crate::world::World;
-use bcv_base::{CountNames, DbEntry, DbName, Draw, Id16, Names, ObjName, Seq};
+use bcv_base::{CountNames, DbEntry, DbName, Draw, Id16, Latest, Names, ObjName, Outcome, Seq};
 use bcv_model::{Reply, Said};
 use bcv_store::Cond;
 use std::alloc::{AllocError, Global};
@@ -57,6 +56,8 @@ impl World {
         ensures applied { Applies self.old self.new (asked (ask.NewDb db page_size pages)) (Ok result) }
     {
         self.applied += 1;
+        // What its type keeps of a name is known once its text is read.
+        let _ = db.text();
         let id = drawn(&mut self.names);
         let left = pages.items().len() as u32 + 2;
         self.client.task = Some(Task::New(NewTask {
@@ -66,6 +67,7 @@ impl World {
             pages,
             blocks: Seq::of(Vec::new(alloc)),
             stage: Stage::Get,
+            read: None,
         }));
         Said {
             published: None,
@@ -107,16 +109,20 @@ impl World {
         ensures applied { Applies self.old self.new (asked (ask.Step 1)) result }
     {
         self.applied += 1;
-        self.client.task = None;
-        let bytes = write_layout(alloc, &self.client.dbs)?;
-        self.client.etag = put_held(
-            &mut self.store,
-            alloc,
-            &ObjName::Manifest,
-            Cond::Absent,
-            &bytes,
-        )?;
-        self.client.number = 1;
+        let Some(
+            Task::Create {
+                id,
+                block,
+                retention,
+            },
+        ) = self.client.task.take()
+        else {
+            unreachable!()
+        };
+        let manifest = first_manifest(alloc, self.client.id, id, block, retention)?;
+        self.store.plan(Outcome::Ok);
+        let latest = put_manifest(&mut self.store, alloc, Cond::Absent, manifest)?;
+        self.client.latest = Some(latest);
         Ok(published(1))
     }
 
@@ -133,7 +139,8 @@ impl World {
         let Some(Task::New(mut task)) = self.client.task.take() else {
             unreachable!()
         };
-        get_known(&mut self.store, alloc, self.client.etag)?;
+        self.store.plan(Outcome::Ok);
+        task.read = Some(get_manifest(&mut self.store, alloc)?);
         let (stage, left) = if task.pages.items().is_empty() {
             (Stage::Put, 1)
         } else {
@@ -159,6 +166,7 @@ impl World {
         };
         let bytes = block_bytes(alloc, task.pages.items(), task.page_size, self.spec.block)?;
         let id = drawn(&mut self.names);
+        self.store.plan(Outcome::Ok);
         put_held(
             &mut self.store,
             alloc,
@@ -182,26 +190,29 @@ impl World {
         ensures applied { Applies self.old self.new (asked (ask.Step 1)) result }
     {
         self.applied += 1;
-        let Some(Task::New(task)) = self.client.task.take() else {
+        let Some(Task::New(mut task)) = self.client.task.take() else {
             unreachable!()
         };
-        let place = place_of(&self.client.dbs, &task.db);
-        self.client.dbs.insert(place, entry_of(task))?;
-        let bytes = write_layout(alloc, &self.client.dbs)?;
-        self.client.etag = put_held(
-            &mut self.store,
-            alloc,
-            &ObjName::Manifest,
-            Cond::Match(self.client.etag),
-            &bytes,
-        )?;
-        self.client.number += 1;
-        Ok(published(self.client.number))
+        let Some(
+            Latest {
+                manifest: read,
+                etag,
+            },
+        ) = task.read.take()
+        else {
+            unreachable!()
+        };
+        let manifest = next_manifest(alloc, self.client.id, read, entry_of(task))?;
+        let number = manifest.number;
+        self.store.plan(Outcome::Ok);
+        let latest = put_manifest(&mut self.store, alloc, Cond::Match(etag), manifest)?;
+        self.client.latest = Some(latest);
+        Ok(published(number))
     }
 }
 
-// The next name.
-fn drawn(names: &mut CountNames) -> Id16
+/// The next name.
+pub fn drawn(names: &mut CountNames) -> Id16
     requires { names.old.count < 2 ^ 64 }
     ensures id { result ≡ numbered (names.old.count + 1) }
     ensures names { names.new ≡ record { count = names.old.count + 1; faults = 0 } }
@@ -224,6 +235,7 @@ fn entry_of(task: NewTask) -> DbEntry
         pages,
         blocks,
         stage: _,
+        read: _,
     } = task;
     DbEntry {
         name: db,

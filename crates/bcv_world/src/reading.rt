@@ -8,7 +8,7 @@ ghost use Rattle.bcv_world.specs.Moves.{Applies, Counts};
 use crate::client::find_txn;
 use crate::requests::get_block;
 use crate::world::World;
-use bcv_base::{DbName, Seq};
+use bcv_base::{DbName, Outcome, Seq};
 use bcv_model::{Reply, Said};
 use std::alloc::{AllocError, Global};
 
@@ -69,6 +69,7 @@ impl World {
         let Some(id) = open.blocks.items().first().copied() else {
             unreachable!()
         };
+        self.store.plan(Outcome::Ok);
         let bytes = get_block(&mut self.store, alloc, id, self.spec.block as usize)?;
         let page = page_of_block(alloc, &bytes, page_size, page)?;
         Ok(Said {

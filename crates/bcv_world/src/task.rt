@@ -1,4 +1,4 @@
-use bcv_base::{DbName, Id16, Seq};
+use bcv_base::{DbName, Id16, Latest, Seq};
 
 /// Where a new database's task is: before the manifest's get, before the put of its block, or before the manifest's put.
 #[derive(Clone, Copy, Debug, PartialEq, Eq)]
@@ -8,7 +8,8 @@ pub enum Stage {
     Put,
 }
 
-/// The making of a database: the id that it publishes under, the pages, and the block that holds them once it was put.
+/// The making of a database: the id that it publishes under, the pages, the block that holds them once it was put, and
+/// the manifest once it was read.
 #[derive(Drop)]
 pub struct NewTask {
     pub id: Id16,
@@ -17,6 +18,7 @@ pub struct NewTask {
     pub pages: Seq<Seq<u8>>,
     pub blocks: Seq<Id16>,
     pub stage: Stage,
+    pub read: Option<Latest>,
 }
 
 /// A task of a client, which makes one request a step.

@@ -7,8 +7,8 @@ ghost use Rattle.bcv_world.specs.Stands.{Mirrors, IsGood, IsSpec, allows, allows
 ghost use Rattle.bcv_world.specs.Moves.{Applies, AllowsExactly, Counts};
 
 use crate::client::{Client, find_db};
-use crate::task::{NewTask, Stage, Task};
-use bcv_base::{CountNames, DbName, Draw, Id16, Names, Seq};
+use crate::publishing::drawn;
+use bcv_base::{CountNames, DbName, Seq};
 use bcv_memstore::MemStore;
 use bcv_model::{Act, Ask, Event, Reply, Said, WorldSpec};
 use std::alloc::{AllocError, Global};
@@ -26,7 +26,7 @@ pub struct World {
 }
 
 impl World {
-    /// A world in its first state: an empty store, and a client that knows nothing.
+    /// A world in its first state: an empty store, and a client that knows nothing and has the first name.
     pub fn new(alloc: Global, spec: &WorldSpec) -> World
         requires world { is_world spec.now ≡ true }
         requires sizes { IsSpec spec.now }
@@ -35,11 +35,13 @@ impl World {
         ensures good { IsGood result }
         ensures stands { Mirrors result no_history (first_state spec.now.clients spec.now.slots) }
     {
+        let mut names = CountNames::new();
+        let id = drawn(&mut names);
         World {
             spec: *spec,
             store: MemStore::new(alloc),
-            names: CountNames::new(),
-            client: Client::new(alloc),
+            names,
+            client: Client::new(alloc, id),
             applied: 0,
             begun: 0,
         }
@@ -65,7 +67,7 @@ impl World {
         ensures { result ≡ allows_ask self.now ask.now }
     {
         match ask {
-            Ask::Create { .. } => self.client.number == 0 && self.client.task.is_none(),
+            Ask::Create { .. } => self.client.latest.is_none() && self.client.task.is_none(),
             Ask::Step { task } => self.client.task.is_some() && *task == 1,
             Ask::Begin(_) => self.is_idle() && self.begun < 64,
             Ask::Read { .. } => self.is_idle(),
@@ -82,7 +84,7 @@ impl World {
     fn is_idle(&self) -> bool
         ensures { result ≡ is_idle self.now }
     {
-        self.client.number != 0 && self.client.task.is_none()
+        self.client.latest.is_some() && self.client.task.is_none()
     }
 
     // A new database has a new name and fits one block.
@@ -92,8 +94,8 @@ impl World {
     {
         self.is_idle()
             && pages.items().len() as u64 <= u64::from(self.spec.block / self.spec.page)
-            && find_db(&self.client.dbs, db).is_none()
-            && self.client.dbs.len() < 1024
+            && find_db(self.client.dbs(), db).is_none()
+            && self.client.dbs().len() < 1024
     }
 
     /// What the script's first line fixed.
@@ -108,6 +110,13 @@ impl World {
         ensures { result ≡ self.now.applied }
     {
         self.applied
+    }
+
+    /// The store, by whose log the versions can be counted.
+    pub fn store(&self) -> &MemStore
+        ensures { result.now ≡ self.now.store }
+    {
+        &self.store
     }
 
     /// Applies an event that may stand next, and says what is said of it. Fewer than 2^62 events were applied before.

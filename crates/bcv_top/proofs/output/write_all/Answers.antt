@@ -1,6 +1,6 @@
 use Rattle.std.proofs.Common.{◌++◌, take, arith}
 use Rattle.std.proofs.KnownBytes.{Appends-trans}
-use Rattle.bcv_top.proofs.Writer.{wrote_more, wrote_front, wrote_nothing}
+use Rattle.bcv_top.proofs.Writer.{wrote_more, wrote_front, wrote_nothing, some_left}
 use Rattle.bcv_top.proofs.output.write_all.Goals as goal
 
 pub loop-rest-preserved : goal.loop-rest-preserved
@@ -17,9 +17,9 @@ loop-rest-preserved g c =
 pub returns-in-Failed-clause-bytes : goal.returns-in-Failed-clause-bytes
 returns-in-Failed-clause-bytes g c =
     wrote_front (g.O.Sink.given c.args.out.now) (g.O.Sink.given c.loop-rest.out) (g.O.Sink.given c.give.new.self) c.loop-rest.invariant.written c.loop-rest.rest.now c.args.text.now c.loop-rest.invariant.appends c.loop-rest.invariant.joined
-    c.in-Failed.ensures.bytes
+    (some_left c.loop-rest.rest.now c.loop-rest-test.ensures) c.in-Failed.ensures.bytes
 
 pub returns-in-NoMemory-clause-bytes : goal.returns-in-NoMemory-clause-bytes
 returns-in-NoMemory-clause-bytes g c =
     wrote_nothing (g.O.Sink.given c.args.out.now) (g.O.Sink.given c.loop-rest.out) (g.O.Sink.given c.give.new.self) c.loop-rest.invariant.written c.loop-rest.rest.now c.args.text.now c.loop-rest.invariant.appends c.loop-rest.invariant.joined
-    c.in-NoMemory.ensures.bytes
+    (some_left c.loop-rest.rest.now c.loop-rest-test.ensures) c.in-NoMemory.ensures.bytes

@@ -12,12 +12,12 @@ pub returns-in_err-event : goal.returns-in_err-event
 returns-in_err-event c =
     let p = err_from_is_err_and c.from_residual.result c.from_residual.ensures.1 in
     let unread = subst (λ (s : WorldSpec). IsFault c.in_err-event.field-0.0 (event_of s c.args.line.now)) c.spec.ensures c.in_err-event.ensures in
-    rw (p.1, p.2) (answer_unread c.in_err-event.field-0.0 c.args.world.now c.args.world.now c.args.line.now c.args.text.now.items unread)
+    rw (p.1, p.2) (answer_unread c.in_err-event.field-0.0 c.args.world.now c.args.line.now c.args.text.now.items unread)
 
 pub returns-then-not-allows : goal.returns-then-not-allows
 returns-then-not-allows c =
     let is = subst (λ (s : WorldSpec). event_of s c.args.line.now ≡ Some c.in_ok-event.event) c.spec.ensures c.in_ok-event.ensures in
-    answer_refused c.args.world.now c.args.world.now c.args.line.now c.args.text.now.items c.in_ok-event.event is c.allows.ensures.exact (sym c.if-not-allows.ensures.test)
+    answer_refused c.args.world.now c.args.line.now c.args.text.now.items c.in_ok-event.event is c.allows.ensures.exact (sym c.if-not-allows.ensures.test)
 
 pub apply-requires-clause-keeps : goal.apply-requires-clause-keeps
 apply-requires-clause-keeps c =

@@ -1,6 +1,6 @@
 use Rattle.std.proofs.Common.{◌≡◌, drop}
 use Rattle.bcv_base.specs.Keyed.{keyed}
-use Rattle.bcv_world.specs.Stands.{db_name}
+use Rattle.bcv_base.specs.ManifestRules.{db_name}
 use Rattle.bcv_world.proofs.client.find_db.Given as goal
 
 abbrev pub invariant-loop-db : goal.invariant-loop-db

@@ -2,7 +2,7 @@ use Rattle.std.proofs.Common.{ℕ, List, false, drop, ◌+◌, sym, ap, ◌∙�
 use Rattle.bcv_base.specs.Keyed.{keyed}
 use Rattle.bcv_base.specs.Keyed.{comes_before}
 use Rattle.std.specs.Ordering.{is_lt}
-use Rattle.bcv_world.specs.Stands.{db_name}
+use Rattle.bcv_base.specs.ManifestRules.{db_name}
 use Rattle.bcv_world.proofs.KeyedParts.{behind_one}
 use Rattle.bcv_world.proofs.client.place_of.Goals as goal
 

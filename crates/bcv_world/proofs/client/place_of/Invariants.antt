@@ -1,7 +1,7 @@
 use Rattle.std.proofs.Common.{◌≡◌, ◌++◌, take, drop, None}
 use Rattle.bcv_base.specs.declared.manifest.DbEntry.{DbEntry}
 use Rattle.bcv_base.specs.Keyed.{keyed, with_keyed}
-use Rattle.bcv_world.specs.Stands.{db_name}
+use Rattle.bcv_base.specs.ManifestRules.{db_name}
 use Rattle.bcv_world.proofs.client.place_of.Given as goal
 
 abbrev pub invariant-loop-i : goal.invariant-loop-i

@@ -1,0 +1,5 @@
+pub mod Creating
+pub mod Putting
+pub mod State
+pub mod Steps
+pub mod Working

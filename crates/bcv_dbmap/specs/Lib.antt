@@ -1,0 +1,14 @@
+pub mod Applied
+pub mod Checked
+pub mod Counted
+pub mod Deletions
+pub mod Filled
+pub mod Growth
+pub mod Honest
+pub mod Laws
+pub mod Merged
+pub mod Outlived
+pub mod Past
+pub mod Sound
+pub mod Tried
+pub mod Worked

@@ -1,0 +1,37 @@
+//! Edits of a manifest, and what keeps a store's log sound.
+//!
+//! It stands on `bcv_base`, on its definitions of manifests, logs and versions, and knows no bytes and no store. [`check`]
+//! answers the first reason why an edit cannot be published over a manifest, [`apply`] the manifest that it makes, and
+//! [`first`] that of a new container: each is exactly its definition in `specs/`. The other functions do nothing: the clause
+//! of each is a law, of edits or of logs that grow by lawful entries, for the proofs above to cite. Definitions know whole
+//! images, versions and histories; the code knows ids and sharing.
+#![tactic(auto)]
+
+mod applying;
+mod begin;
+mod checking;
+mod counting;
+mod databases;
+mod dead;
+mod fault;
+mod ids;
+mod laws;
+mod listing;
+mod marks;
+mod plan;
+mod sizes;
+#[cfg(test)]
+mod tests;
+mod writers;
+
+pub use applying::apply;
+pub use begin::first;
+pub use checking::check;
+pub use fault::EditFault;
+pub use laws::{
+    a_life_is_sound, applied_appends_edit, applied_meets_limits, applied_meets_rules,
+    deleted_is_outlived, empty_is_sound, first_creates, first_meets_rules, gone_is_outlived,
+    lawful_keeps_sound, others_keep_sound, others_leave_mine, published_is_lawful, versions_stay,
+};
+pub use listing::listed;
+pub use plan::EditPlan;

@@ -1,0 +1,4 @@
+pub mod Getting
+pub mod Putting
+pub mod State
+pub mod Steps
