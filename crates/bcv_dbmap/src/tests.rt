@@ -11,6 +11,10 @@ use bcv_base::{DbEntry, DbName, Dead, Id16, Manifest, Seq};
 use std::alloc::{AllocError, Global};
 use std::test::*;
 
+mod plain;
+
+use plain::{Plain, Step, agrees};
+
 const BLOCK: u32 = 1_024;
 
 // An id that is not of zeros.
@@ -466,4 +470,92 @@ fn test_of_the_length(rt: HostRuntime) -> Result<(), Fail> {
     let new = EditPlan::New(asked(alloc, met, BLOCK, 65_418));
     assert!(rt; answers(&m, &new, 0, Some(EditFault::ManifestTooLong)));
     Ok(())
+}
+
+// The manifest behind a step of the plain rows, or `None` where it is refused.
+fn stepped(alloc: Global, m: &Manifest, step: Step, tag: u32) -> Option<Manifest>
+    requires tried { IsTried m.now }
+    requires few { step.count ≤ 65536 }
+    ensures { IfSome result IsTried }
+{
+    let name = name_of((step.place % 3) as u32)?;
+    let other = name_of((step.other % 3) as u32)?;
+    let id = step.number;
+    match step.kind {
+        0 => with_new(alloc, m, name, step.from, step.count, id),
+        1 => with_upload(
+            alloc,
+            m,
+            id_of(tag),
+            name,
+            step.from,
+            step.count,
+            id,
+            u64::from(id),
+        ),
+        2 => with_copy(alloc, m, name, other, id),
+        3 => without(alloc, m, name, id, u64::from(id)),
+        _ => match ids_of(alloc, step.from, step.count) {
+            Ok(ids) => swept(alloc, m, ids, id, 0),
+            Err(_) => None,
+        },
+    }
+}
+
+// A step that a number tells: over fresh blocks, or over some of those that are there.
+fn step_of(plain: &Plain, drawn: u32, number: u32) -> Step
+    ensures { result.count ≤ 65536 }
+{
+    let place = (drawn / 5 % 3) as usize;
+    let from = if drawn / 45 % 2 == 0 {
+        number.wrapping_mul(8)
+    } else {
+        plain.from(place).wrapping_add(2)
+    };
+    Step {
+        kind: drawn % 5,
+        place,
+        other: (drawn / 15 % 3) as usize,
+        from,
+        count: drawn / 90 % 7,
+        number,
+    }
+}
+
+// Whether 200 edits that a seed tells leave the manifest and the plain rows alike, each of them.
+fn run_agrees(alloc: Global, seed: u32) -> bool {
+    let mut plain = match Plain::new(alloc, 2_048) {
+        Ok(plain) => plain,
+        Err(_) => return false,
+    };
+    let Some(mut m) = begun(alloc) else {
+        return false;
+    };
+    let mut drawn = seed;
+    for number in 1..=200 {
+        drawn = drawn.wrapping_mul(1_664_525).wrapping_add(1_013_904_223);
+        let step = step_of(&plain, drawn / 65_536, number);
+        let made = stepped(alloc, &m, step, plain.tag(step.place));
+        let allowed = plain.edit(step);
+        match made {
+            Some(edited) => m = edited,
+            None => {
+                if allowed {
+                    return false;
+                }
+                continue;
+            }
+        }
+        if !allowed || !agrees(&m, &plain) {
+            return false;
+        }
+    }
+    true
+}
+
+#[test]
+fn edits_at_random(rt: HostRuntime) {
+    for seed in 0..20u32 {
+        assert!(rt; run_agrees(rt.alloc(), seed), "of seed {seed}");
+    }
 }

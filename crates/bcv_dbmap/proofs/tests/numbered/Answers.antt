@@ -1,7 +1,4 @@
-use Rattle.std.proofs.Common.{◌≡◌, [], List, refl, sym, ap, subst, ◌∙◌, lit<, lit≤, arith}
-use Rattle.bcv_base.specs.declared.manifest.DbEntry.{DbEntry}
-use Rattle.bcv_base.specs.declared.manifest.Dead.{Dead}
-use Rattle.bcv_base.specs.declared.manifest.Writer.{Writer}
+use Rattle.std.proofs.Common.{◌∙◌}
 use Rattle.bcv_dbmap.proofs.Trying.{empty_tried}
 use Rattle.bcv_dbmap.proofs.tests.numbered.Goals as goal
 
