@@ -1,6 +1,6 @@
 ghost use Rattle.std.specs.Prelude.{◌≡◌, List, Some};
 ghost use Rattle.std.specs.Option.{option_copied};
-ghost use Rattle.bcv_dbcopy.specs.State.{FitsPages, IsEdit, edit_of_plan, pages_of_plan, new_task, left_of, is_ready, manifest_requests};
+ghost use Rattle.bcv_dbcopy.specs.State.{FitsPages, IsEdit, IsTask, edit_of_plan, pages_of_plan, new_task, left_of, is_ready, manifest_requests};
 
 use crate::blocks::blocks_left;
 use crate::plan::CopyPlan;
@@ -75,7 +75,8 @@ impl CopyTask {
 
     /// Whether the manifest's put is the one request left.
     pub fn ready(&self) -> bool
-        ensures { result ≡ is_ready self.now }
+        ensures ready { result ≡ is_ready self.now }
+        ensures task { IsTask self.now }
     {
         self.publish.latest().is_some() && self.left() == 1
     }
@@ -85,6 +86,20 @@ impl CopyTask {
         ensures { option_copied result ≡ self.now.publish.latest }
     {
         self.publish.latest()
+    }
+
+    /// The manifest that was read last, or the one that was published, with its etag; the task ends.
+    pub fn into_latest(self) -> Option<Latest>
+        ensures { result ≡ self.publish.latest }
+    {
+        let CopyTask {
+            edit: _,
+            pages: _,
+            publish,
+            block: _,
+            published: _,
+        } = self;
+        publish.into_latest()
     }
 }
 

@@ -1,12 +1,12 @@
 -- The delete list behind a plan: what a look-up finds in it, by cases, and that it ascends.
-use Rattle.std.proofs.Common.{◌≡◌, ◌∙◌, ℕ, Bool, true, false, ◌||◌, cond, List, [], ◌∷◌, Option, Some, None, refl, sym, ap, subst}
+use Rattle.std.proofs.Common.{◌≡◌, ◌∙◌, ℕ, Bool, true, false, ◌||◌, ◌⊎◌, inl, inr, cond, List, [], ◌∷◌, Option, Some, None, is_some, refl, sym, ap, subst}
 use Rattle.bcv_base.specs.declared.id.Id16.{Id16}
 use Rattle.bcv_base.specs.declared.manifest.DbEntry.{DbEntry}
 use Rattle.bcv_base.specs.declared.manifest.Dead.{Dead}
 use Rattle.bcv_base.specs.HistoryLaws.{id_eq-is}
 use Rattle.bcv_base.specs.Ids.{id_eq, has_id}
 use Rattle.bcv_base.specs.Keyed.{keyed, with_keyed}
-use Rattle.bcv_base.specs.ManifestRules.{dead_id, lists, IsAbove, Ascends}
+use Rattle.bcv_base.specs.ManifestRules.{dead_id, lists, is_dead, IsAbove, Ascends}
 use Rattle.bcv_dbmap.specs.declared.plan.EditPlan.{EditPlan}
 use Rattle.bcv_dbmap.specs.Applied.{bury, bury_all, still_dead, swept_ids, dead_after}
 use Rattle.bcv_dbmap.proofs.Keys.{by_test, keyed_here, keyed_there, keyed_at, keyed_other, ascends_with}
@@ -117,6 +117,17 @@ dead_after_found p stamp now before dead i =
         → cond a (cond (a || c) None old) (cond b found (cond (a || c) None old)) ≡ cond a None (cond b found (cond c None old))
     together true b c found old = refl
     together false b c found old = refl
+
+-- what is found was listed or dead before
+pub found_died : (p : EditPlan) (stamp : ℕ) (now before : List DbEntry) (dead : List Dead) (i : Id16)
+    → is_some (dead_found p stamp now before dead i) ≡ true → (lists before i ≡ true) ⊎ (is_dead dead i ≡ true)
+found_died p stamp now before dead i = found (lists now i) (lists before i) (has_id i (swept_ids p))
+  where
+    found : (a b c : Bool) → is_some (cond a None (cond b (Some (dead_at i stamp)) (cond c None (keyed dead_id i.0 dead)))) ≡ true → (b ≡ true) ⊎ (is_dead dead i ≡ true)
+    found true b c h = absurd cc
+    found false true c h = inl refl
+    found false false true h = absurd cc
+    found false false false h = inr h
 
 -- a block that is listed is not dead
 pub listed_not_dead : (p : EditPlan) (stamp : ℕ) (now before : List DbEntry) (dead : List Dead) (i : Id16)

@@ -10,7 +10,7 @@ use Rattle.bcv_base.specs.ManifestRules.{writer_id, dead_id, lists, is_dead}
 use Rattle.bcv_dbmap.specs.Applied.{made_entry, swept_ids, applied}
 use Rattle.bcv_dbmap.specs.Past.{IsAmong, is_old, writer_of}
 use Rattle.bcv_dbmap.specs.Sound.{IsEditOf}
-use Rattle.bcv_dbmap.proofs.DeadLaws.{dead_at, dead_found, dead_after_found}
+use Rattle.bcv_dbmap.proofs.DeadLaws.{dead_at, dead_found, dead_after_found, found_died}
 use Rattle.bcv_dbmap.proofs.Entries.{entry_from}
 use Rattle.bcv_dbmap.proofs.Keys.{keyed_with}
 
@@ -61,13 +61,7 @@ module _ (old m : Manifest) (e : IsEditOf old m) where
 
   -- a dead block was listed or dead before
   pub edit_died : (i : Id16) → is_dead m.dead i ≡ true → (lists old.dbs i ≡ true) ⊎ (is_dead old.dead i ≡ true)
-  edit_died i h = found (lists m.dbs i) (lists old.dbs i) (has_id i (swept_ids e.plan)) (sym (ap is_some (edit_dead i)) ∙ h)
-    where
-      found : (a b c : Bool) → is_some (cond a None (cond b (Some (dead_at i m.moment)) (cond c None (keyed dead_id i.0 old.dead)))) ≡ true → (b ≡ true) ⊎ (is_dead old.dead i ≡ true)
-      found true b c h = absurd cc
-      found false true c h = inl refl
-      found false false true h = absurd cc
-      found false false false h = inr h
+  edit_died i h = found_died e.plan m.moment m.dbs old.dbs old.dead i (sym (ap is_some (edit_dead i)) ∙ h)
 
   -- one that lies the retention back was listed before and the manifest itself lies it back, or it did so before
   pub edit_expired : (i : Id16) (at : ℕ) → is_old (keyed dead_id i.0 m.dead) m.retention at ≡ true

@@ -1,5 +1,5 @@
 -- Keyed lists: the order of keys, what a look-up finds behind a put and a removal, and what stays ascending.
-use Rattle.std.proofs.Common.{◌≡◌, ◌∙◌, ℕ, ◌+◌, Bool, true, false, cond, List, [], ◌∷◌, length, Option, Some, None, refl, sym, ap, subst, true≢false, arith}
+use Rattle.std.proofs.Common.{◌≡◌, ◌∙◌, ℕ, ◌+◌, ◌≤◌, Bool, true, false, cond, List, [], ◌∷◌, length, Option, Some, None, refl, sym, ap, subst, true≢false, arith}
 use Rattle.std.proofs.lemmas.Cmp.{tied_itself}
 use Rattle.std.proofs.lemmas.Option.{same_Some}
 use Rattle.std.proofs.lemmas.Slice.Eq.{bytes_eq-Decides}
@@ -206,6 +206,12 @@ module _ {A : Type 0} (key : A → List ℕ) where
   ascends_made (Some a) xs asc = ascends_with a xs asc
 
   -- ---- lengths
+
+  pub length_with : (a : A) (xs : List A) → length (with_keyed key a xs) ≤ length xs + 1
+  length_with a [] = omega arith
+  length_with a (x ∷ xs) =
+      let more : length (with_keyed key a xs) ≤ length xs + 1 = length_with a xs in
+      by_place (λ (l : List A). length l ≤ length (x ∷ xs) + 1) a x xs (λ e. omega arith) (λ e f. omega arith) (λ e f. omega arith)
 
   pub length_new : (a : A) (xs : List A) → keyed key (key a) xs ≡ None → length (with_keyed key a xs) ≡ length xs + 1
   length_new a [] none = refl

@@ -1,4 +1,5 @@
 pub mod Alike
+pub mod AllListed
 pub mod Appends
 pub mod Bools
 pub mod Chosen
@@ -20,6 +21,7 @@ pub mod Passes
 pub mod PastLaws
 pub mod Places
 pub mod Publishes
+pub mod Room
 pub mod RulesLaws
 pub mod SoundLaws
 pub mod Trying

@@ -166,7 +166,7 @@ fills_sizes m asked p writer rules f s =
 
 -- ---- what is applied keeps within the limits
 
-few_writers_after : (writer id : Id16) (number : ℕ) (ws : List Writer) → Ascends writer_id ws → length ws ≤ 4096 → (is_none (keyed writer_id writer.0 ws) && nat_le 4096 (length ws)) ≡ false
+pub few_writers_after : (writer id : Id16) (number : ℕ) (ws : List Writer) → Ascends writer_id ws → length ws ≤ 4096 → (is_none (keyed writer_id writer.0 ws) && nat_le 4096 (length ws)) ≡ false
     → length (writers_after writer id number ws) ≤ 4096
 few_writers_after writer id number ws asc few h = found (keyed writer_id writer.0 ws) refl h
   where

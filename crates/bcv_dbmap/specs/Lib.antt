@@ -9,6 +9,7 @@ pub mod Laws
 pub mod Merged
 pub mod Outlived
 pub mod Past
+pub mod Room
 pub mod Sound
 pub mod Tried
 pub mod Worked

@@ -20,6 +20,7 @@ ghost use Rattle.bcv_dbmap.specs.Laws.{
   DeletedIsOutlived,
   GoneIsOutlived,
 };
+ghost use Rattle.bcv_dbmap.specs.Room.{FullIsMany};
 
 /// What a plan makes of the last manifest, published behind its new blocks, appends the plan's edit to the versions. The
 /// publish engine says with it which version its put made, and the world that the put is the machine's edit.
@@ -91,6 +92,12 @@ pub fn deleted_is_outlived()
 /// entry with that tag. The client answers by it that a version is gone.
 pub fn gone_is_outlived()
     ensures { GoneIsOutlived }
+{}
+
+/// An edit has no room in the delete list or in the manifest only where the blocks of all databases of all versions together
+/// are more than 1,048,576. The world and the client answer by it that a delete list is full or a manifest too long.
+pub fn full_is_many()
+    ensures { FullIsMany }
 {}
 
 /// The life of one database is sound: it is made, removed, its block deleted when the retention has passed, and swept. A

@@ -30,8 +30,9 @@ pub use checking::check;
 pub use fault::EditFault;
 pub use laws::{
     a_life_is_sound, applied_appends_edit, applied_meets_limits, applied_meets_rules,
-    deleted_is_outlived, empty_is_sound, first_creates, first_meets_rules, gone_is_outlived,
-    lawful_keeps_sound, others_keep_sound, others_leave_mine, published_is_lawful, versions_stay,
+    deleted_is_outlived, empty_is_sound, first_creates, first_meets_rules, full_is_many,
+    gone_is_outlived, lawful_keeps_sound, others_keep_sound, others_leave_mine,
+    published_is_lawful, versions_stay,
 };
 pub use listing::listed;
 pub use plan::EditPlan;

@@ -12,6 +12,7 @@ use std::alloc::{AllocError, Global};
 use std::test::*;
 
 mod plain;
+mod rows;
 
 use plain::{Plain, Step, agrees};
 
