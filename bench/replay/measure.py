@@ -1,16 +1,23 @@
 #!/usr/bin/env python3
-"""Times the replay: makes scripts of 10,000 and of 100,000 events that fit the grammar, runs the built program on them,
-and prints events a second, the ratio of the time per event between the two sizes, and the peak memory of each run.
+"""Times the replay of scripts that fit the grammar.
+
+Reads: 10,000 and 100,000 events, most of them reads of pages; events a second, the ratio of the time per event between the
+two sizes, and the peak memory of each run.
+Publications: lines `new`, `copy` and `drop`, over 3 databases with 1,000 and with 10,000 versions and over 300 with 1,000;
+the time per event, and for 3 databases its ratio between the two sizes.
 
 Run at the top of the repository, after `./run bcvutil - - replay < examples/first-read.script` has built the program:
-    python3 bench/replay/measure.py
-It ends with status 1 where the time per event grows by half or more."""
-import os, resource, subprocess, sys, time
+    python3 bench/replay/measure.py [PROGRAM]
+It ends with status 1 where the time per event grows by half or more, in either part."""
+import os, subprocess, sys, time
 
-PROGRAM = os.path.join(os.path.dirname(os.path.abspath(__file__)), "../../crates/bcvutil/out/bcvutil")
+BUILT = os.path.join(os.path.dirname(os.path.abspath(__file__)), "../../crates/bcvutil/out/bcvutil")
+PROGRAM = sys.argv[1] if len(sys.argv) > 1 else BUILT
+# What one run takes varies by a tenth or more; the best of so many counts.
+RUNS = 5
 
 
-def script(events):
+def reads(events):
     """A container, 200 databases of eight pages, 60 transactions, and then reads until there are so many events."""
     lines = ["1 create", "1 step 1"]
     for k in range(200):
@@ -24,10 +31,31 @@ def script(events):
     return "world 1 4096 512 100 2\n" + "\n".join(lines) + "\n", len(lines)
 
 
-def measure(events):
-    text, count = script(events)
+def publications(databases, versions):
+    """A container, a database of eight pages, copies of it, and then rounds until there are so many versions.
+
+    A round drops a database, makes an empty one of its name, drops that one, and copies a neighbour to the name. The
+    copies share their blocks, so that no block dies: what dies stays listed in each later manifest until it is cleaned up,
+    and no line cleans up yet."""
+    lines = ["1 create", "1 step 1", "1 new db0 01 02 03 04 05 06 07 08"] + ["1 step 1"] * 3
+    made = 2
+    for k in range(1, databases):
+        lines += ["1 copy db0 db%d" % k, "1 step 1", "1 step 1"]
+        made += 1
+    k = 0
+    while made + 4 <= versions:
+        old, other = k % databases, (k + 1) % databases
+        for line in ("drop db%d" % old, "new db%d" % old, "drop db%d" % old, "copy db%d db%d" % (other, old)):
+            lines += ["1 " + line, "1 step 1", "1 step 1"]
+        made += 4
+        k += 1
+    return "world 1 4096 512 100 2\n" + "\n".join(lines) + "\n", len(lines)
+
+
+def seconds_of(text, count):
+    """The shortest time of a run, which must answer each event, and what was answered."""
     best = None
-    for _ in range(5):
+    for _ in range(RUNS):
         start = time.perf_counter()
         child = subprocess.Popen([PROGRAM, "-", "-", "replay"], stdin=subprocess.PIPE, stdout=subprocess.PIPE)
         out, _ = child.communicate(text.encode())
@@ -35,21 +63,45 @@ def measure(events):
         if child.returncode != 0 or out.count(b"\n") != count:
             sys.exit("the replay ended with status %d after %d replies of %d" % (child.returncode, out.count(b"\n"), count))
         best = seconds if best is None else min(best, seconds)
-    return count, best
+    return best, out
 
 
-def peak(events):
+def peak(text):
     """The peak memory of one run, in KiB, by a process of its own, so that runs don't hide each other."""
     code = ("import resource, subprocess, sys; p = subprocess.run([%r, '-', '-', 'replay'], stdin=sys.stdin, stdout=subprocess.DEVNULL); "
             "print(resource.getrusage(resource.RUSAGE_CHILDREN).ru_maxrss)" % PROGRAM)
-    done = subprocess.run([sys.executable, "-c", code], input=script(events)[0].encode(), stdout=subprocess.PIPE)
+    done = subprocess.run([sys.executable, "-c", code], input=text.encode(), stdout=subprocess.PIPE)
     return int(done.stdout)
 
 
-small, large = measure(10_000), measure(100_000)
-per = [seconds / count for count, seconds in (small, large)]
-ratio = per[1] / per[0]
-for (count, seconds), size in ((small, 10_000), (large, 100_000)):
-    print("%7d events: %9.0f events a second, peak memory %d KiB" % (count, count / seconds, peak(size)))
-print("time per event, large to small: %.2f" % ratio)
-sys.exit(0 if ratio < 1.5 else 1)
+def measure_reads():
+    per = []
+    for size in (10_000, 100_000):
+        text, count = reads(size)
+        seconds, _ = seconds_of(text, count)
+        per.append(seconds / count)
+        print("%7d events: %9.0f events a second, peak memory %d KiB" % (count, count / seconds, peak(text)))
+    print("time per event, large to small: %.2f" % (per[1] / per[0]))
+    return per[1] / per[0]
+
+
+def measure_publications():
+    per = {}
+    for databases, versions in (3, 1_000), (3, 10_000), (300, 1_000):
+        text, count = publications(databases, versions)
+        seconds, out = seconds_of(text, count)
+        made = out.count(b"\n+") + out.startswith(b"+")
+        # Four versions make a round, so the last ones may be missing.
+        if not versions - 4 < made <= versions:
+            sys.exit("%d versions were published in place of %d" % (made, versions))
+        per[databases, versions] = seconds / count
+        print("%3d databases, %5d versions: %6d events, %8.2f microseconds an event, peak memory %d KiB"
+              % (databases, made, count, 1e6 * seconds / count, peak(text)))
+    ratio = per[3, 10_000] / per[3, 1_000]
+    print("time per event over 3 databases, 10,000 versions to 1,000: %.2f" % ratio)
+    return ratio
+
+
+if __name__ == "__main__":
+    ratios = measure_reads(), measure_publications()
+    sys.exit(0 if max(ratios) < 1.5 else 1)

@@ -37,6 +37,14 @@ impl CountNames {
             faults: 0,
         }
     }
+
+    /// How often it failed: never while it gave fewer than 2^128 - 1 names.
+    pub fn faults(&self) -> u64
+        ensures is { result ≡ self.now.faults }
+        ensures none { self.now.count < 2 ^ 128 - 1 → self.now.faults ≡ 0 }
+    {
+        self.faults
+    }
 }
 
 impl Names for CountNames {

@@ -92,14 +92,7 @@ impl CopyTask {
     pub fn into_latest(self) -> Option<Latest>
         ensures { result ≡ self.publish.latest }
     {
-        let CopyTask {
-            edit: _,
-            pages: _,
-            publish,
-            block: _,
-            published: _,
-        } = self;
-        publish.into_latest()
+        self.publish.into_latest()
     }
 }
 

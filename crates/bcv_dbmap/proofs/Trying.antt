@@ -70,10 +70,6 @@ pub is_page : is_page_size 1024 1024 ≡ true
 unfolding ones
 is_page = refl
 
-pub is_half_page : is_page_size 1024 512 ≡ true
-unfolding ones
-is_half_page = refl
-
 -- a manifest with nothing in it
 nothing_tried : (number : ℕ) (id : Id16) → 1 ≤ number → number < 2 ^ 64 → IsId id
     → IsTried (record { number = number; moment = 0; block = 1024; retention = 0; id = id; writers = []; dbs = []; dead = [] })

@@ -12,7 +12,6 @@ use std::alloc::{AllocError, Global};
 use std::test::*;
 
 mod plain;
-mod rows;
 
 use plain::{Plain, Step, agrees};
 

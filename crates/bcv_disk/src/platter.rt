@@ -39,6 +39,7 @@ impl Platter {
     ghost use Rattle.bcv_disk.specs.declared.platter.Act.TheVariants.{Wrote, CutTo};
     ghost use Rattle.bcv_disk.specs.Record.{content, synced};
 
+    /// A platter of no bytes.
     pub fn new(alloc: Global) -> Platter
         ensures { result ≡ [] }
     {
@@ -49,6 +50,7 @@ impl Platter {
         }
     }
 
+    /// The bytes that a read gives.
     pub fn bytes(&self) -> &[u8]
         ensures { result.now ≡ content self.now }
     {
@@ -81,6 +83,7 @@ impl Platter {
         Ok(())
     }
 
+    /// Behind it a crash leaves just what a read gives.
     pub fn sync(&mut self)
         ensures { self.new ≡ synced self.old }
     {

@@ -38,6 +38,7 @@ impl Model for History {
 }
 
 impl History {
+    /// A history of no entry.
     pub fn new(alloc: Global) -> History
         ensures { result ≡ [] }
     {
@@ -48,6 +49,7 @@ impl History {
         }
     }
 
+    /// How many entries it has.
     pub fn len(&self) -> usize
         ensures { result ≡ length self.now }
     {

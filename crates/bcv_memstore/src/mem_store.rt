@@ -29,6 +29,7 @@ pub struct MemStore {
 impl MemStore {
     ghost use Rattle.bcv_memstore.specs.Told.{log_of, plan_of, faults_of};
 
+    /// A store of no object, with nothing planned.
     pub fn new(alloc: Global) -> MemStore
         ensures log { log_of result ≡ [] }
         ensures plan { plan_of result ≡ [] }

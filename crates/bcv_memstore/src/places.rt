@@ -22,6 +22,7 @@ pub struct Places {
 }
 
 impl Places {
+    /// No name has a place.
     pub fn new(alloc: Global) -> Places
         ensures { (name : ObjName) → place_of result name ≡ None }
     {
@@ -31,6 +32,7 @@ impl Places {
         }
     }
 
+    /// The place of a name.
     pub fn get(&self, name: &ObjName) -> Option<usize>
         ensures { result ≡ place_of self.now name.now }
     {
@@ -40,6 +42,7 @@ impl Places {
         }
     }
 
+    /// Gives a name this place.
     pub fn set(&mut self, name: &ObjName, place: usize) -> Result<(), AllocError>
         ensures set { OnOk result ((other : ObjName) → place_of self.new other ≡ (if name_eq name.now other then Some place else place_of self.old other)) }
         ensures kept { OnErr result ((other : ObjName) → place_of self.new other ≡ place_of self.old other) }
@@ -55,6 +58,7 @@ impl Places {
         Ok(())
     }
 
+    /// Takes the place of a name away.
     pub fn remove(&mut self, name: &ObjName)
         ensures { (other : ObjName) → place_of self.new other ≡ (if name_eq name.now other then None else place_of self.old other) }
     {

@@ -2,6 +2,7 @@ pub mod Commits
 pub mod Machine
 pub mod MachineGet
 pub mod MachineMiddle
+pub mod MachineNotes
 pub mod MachinePut
 pub mod MachineReading
 pub mod MachineStart

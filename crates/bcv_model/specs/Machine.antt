@@ -13,7 +13,7 @@ use Rattle.bcv_model.specs.declared.reply.Reply.{Reply}
 use Rattle.bcv_model.specs.declared.reply.Reply.TheVariants as reply
 use Rattle.bcv_model.specs.declared.reply.Said.{Said}
 use Rattle.bcv_model.specs.declared.spec.WorldSpec.{WorldSpec}
-use Rattle.bcv_model.specs.MachineState.{State, first_state, Here, IsHere, Task, Kind, Reading, Creating, Making, task_at, without_task, with_up}
+use Rattle.bcv_model.specs.MachineState.{State, first_state, Here, IsHere, Task, Kind, Reading, Creating, Making, Copying, Removing, task_at, without}
 use Rattle.bcv_model.specs.MachineReading.{Begins, Reads, ReadSteps}
 use Rattle.bcv_model.specs.MachineStart.{Starts, publishes}
 use Rattle.bcv_model.specs.MachineGet.{Gets}
@@ -39,12 +39,14 @@ abbrev pub KindSteps : Here → Task → Kind → Option Id16 → Outcome → Sa
 KindSteps h task (Reading number p) id outcome said b = (said.published ≡ None) × ReadSteps h task number p outcome said.reply b
 KindSteps h task (Creating block retention) (Some id) outcome said b = Puts h task id 0 outcome said.published said.reply b
 KindSteps h task (Making d page_size pages) (Some id) outcome said b = PublishSteps h task id task.read task.left outcome said b
+KindSteps h task (Copying from to) (Some id) outcome said b = PublishSteps h task id task.read task.left outcome said b
+KindSteps h task (Removing name) (Some id) outcome said b = PublishSteps h task id task.read task.left outcome said b
 KindSteps h task _ _ outcome said b = ⊥
 
 -- a task that publishes ends where the journal is closed
 abbrev pub OpenSteps : Bool → Here → Task → Outcome → Said → State → Type 0
 OpenSteps true h task outcome said b =
-    (said.published ≡ None) × (said.reply ≡ reply.Closed) × (b ≡ with_up h (record h.up { tasks = without_task task.number h.up.tasks }))
+    (said.published ≡ None) × (said.reply ≡ reply.Closed) × (b ≡ without h task.number)
 OpenSteps false h task outcome said b = KindSteps h task task.kind task.id outcome said b
 
 -- a step of the task of a number, where there is one
@@ -59,6 +61,8 @@ Asks h (ask.Begin db) outcome said choice b = (said.published ≡ None) × Begin
 Asks h (ask.Read t p) outcome said choice b = (said.published ≡ None) × Reads h t p said.reply b
 Asks h (ask.Create block retention) outcome said choice b = (said.published ≡ None) × Starts h (Creating block retention) choice.name said.reply b
 Asks h (ask.NewDb db page_size pages) outcome said choice b = (said.published ≡ None) × Starts h (Making db page_size pages) choice.name said.reply b
+Asks h (ask.Copy from to) outcome said choice b = (said.published ≡ None) × Starts h (Copying from to) choice.name said.reply b
+Asks h (ask.Remove name) outcome said choice b = (said.published ≡ None) × Starts h (Removing name) choice.name said.reply b
 Asks h (ask.Step t) outcome said choice b = Steps h (task_at t h.up.tasks) outcome said b
 Asks h _ outcome said choice b = ⊥
 
@@ -85,6 +89,8 @@ Run a _ _ _ b = ⊥
 abbrev pub starts_publication : Ask → Reply → Bool
 starts_publication (ask.Create block retention) (reply.Task n left) = true
 starts_publication (ask.NewDb db page_size pages) (reply.Task n left) = true
+starts_publication (ask.Copy from to) (reply.Task n left) = true
+starts_publication (ask.Remove name) (reply.Task n left) = true
 starts_publication _ _ = false
 
 abbrev pub drawn_by : Event → Said → Choice → List Id16

@@ -6,7 +6,7 @@ use Rattle.bcv_model.specs.declared.reply.Reply.{Reply}
 use Rattle.bcv_model.specs.declared.reply.Reply.TheVariants as reply
 use Rattle.bcv_base.specs.declared.outcome.Outcome.{Outcome}
 use Rattle.bcv_base.specs.declared.outcome.Outcome.TheVariants as outcome
-use Rattle.bcv_model.specs.MachineState.{State, Here, Txn, Task, View, Reading, view_of, database_at, with_up, IsLeastFree, txn_at, without_task, txn_image, is_at_hand, held_pairs}
+use Rattle.bcv_model.specs.MachineState.{State, Here, Txn, Task, View, Reading, view_of, database_at, with_up, IsLeastFree, txn_at, without, txn_image, is_at_hand, held_pairs}
 
 -- ---- begin
 
@@ -47,7 +47,9 @@ Reads h number p _ b = ⊥
 
 -- ---- the step of a read's task, which ends it
 
+-- the page comes where the request is done, else a fault
 abbrev pub ReadSteps : Here → Task → ℕ → ℕ → Outcome → Reply → State → Type 0
-ReadSteps h task number p outcome.Ok (reply.Page bytes) b =
-    (t : Txn) × HasPage h number p t × (page_of (txn_image t) p ≡ Some bytes) × (b ≡ with_up h (record h.up { tasks = without_task task.number h.up.tasks }))
+ReadSteps h task number p outcome.Ok (reply.Page bytes) b = (t : Txn) × HasPage h number p t × (page_of (txn_image t) p ≡ Some bytes) × (b ≡ without h task.number)
+ReadSteps h task number p outcome.Fail reply.StoreFault b = b ≡ without h task.number
+ReadSteps h task number p outcome.Lost reply.StoreFault b = b ≡ without h task.number
 ReadSteps h task number p _ _ b = ⊥

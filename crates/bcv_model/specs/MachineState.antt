@@ -168,6 +168,10 @@ without_task n ts = filter (λ (t : Task). not (t.number == n)) ts
 abbrev pub with_task : Task → List Task → List Task
 with_task t ts = map (λ (x : Task). if x.number == t.number then t else x) ts
 
+-- the state after a task has ended, and nothing else has changed
+abbrev pub without : Here → ℕ → State
+without h number = with_up h (record h.up { tasks = without_task number h.up.tasks })
+
 -- ---- ids
 
 -- the ids of a client's tasks and of its pending publication

@@ -1,10 +1,12 @@
 -- The grammar of a script's lines.
 use Rattle.std.specs.Prelude.{ℕ, ◌-◌, ◌*◌, ◌^◌, Bool, List, [], ◌∷◌, Option, Some, None, nat_le, if◌then◌else◌, codes}
 use Rattle.std.specs.Str.{bytes_eq}
+use Rattle.bcv_base.specs.declared.outcome.Outcome.{Outcome}
 use Rattle.bcv_base.specs.declared.outcome.Outcome.TheVariants as outcome
 use Rattle.bcv_base.specs.ManifestRules.{is_block_size, is_page_size}
 use Rattle.bcv_model.specs.declared.ask.Ask.{Ask}
 use Rattle.bcv_model.specs.declared.ask.Ask.TheVariants as ask
+use Rattle.bcv_model.specs.declared.event.Act.{Act}
 use Rattle.bcv_model.specs.declared.event.Act.TheVariants as act
 use Rattle.bcv_model.specs.declared.event.Event.{Event}
 use Rattle.bcv_model.specs.declared.event.Event.TheVariants as event
@@ -61,22 +63,42 @@ abbrev pub read_of : List (List ℕ) → Option Ask
 read_of (x ∷ p ∷ []) = number_in 1 64 x >>= λ txn. number_in 1 (2 ^ 32 - 1) p >>= λ page. Some (ask.Read txn page)
 read_of _ = None
 
-abbrev pub step_of : List (List ℕ) → Option Ask
-step_of (t ∷ []) = number_in 1 16 t >>= λ task. Some (ask.Step task)
-step_of _ = None
+abbrev pub copy_of : List (List ℕ) → Option Ask
+copy_of (from ∷ to ∷ []) = name_of from >>= λ a. name_of to >>= λ b. Some (ask.Copy a b)
+copy_of _ = None
 
--- what a client is asked, by the line's second word
+abbrev pub drop_of : List (List ℕ) → Option Ask
+drop_of (db ∷ []) = name_of db >>= λ d. Some (ask.Remove d)
+drop_of _ = None
+
+-- what a client is asked without a step, by the line's second word
 abbrev pub ask_of : WorldSpec → List ℕ → List (List ℕ) → Option Ask
 ask_of spec verb words =
     if bytes_eq verb (codes "begin") then begin_of words
     else (if bytes_eq verb (codes "read") then read_of words
     else (if bytes_eq verb (codes "create") then create_of spec words
     else (if bytes_eq verb (codes "new") then new_of spec words
-    else (if bytes_eq verb (codes "step") then step_of words else None))))
+    else (if bytes_eq verb (codes "copy") then copy_of words
+    else (if bytes_eq verb (codes "drop") then drop_of words else None)))))
+
+-- the outcome that a step's line sets: its request is done, or fails
+abbrev pub outcome_of : List (List ℕ) → Option Outcome
+outcome_of [] = Some outcome.Ok
+outcome_of (word ∷ []) = given (bytes_eq word (codes "fail")) outcome.Fail
+outcome_of _ = None
+
+abbrev pub step_of : List (List ℕ) → Option Act
+step_of (t ∷ words) = number_in 1 16 t >>= λ task. outcome_of words >>= λ o. Some (act.Ask (ask.Step task) o)
+step_of [] = None
+
+-- what happens to a client, by the line's second word; each request but a step's is done
+abbrev pub act_of : WorldSpec → List ℕ → List (List ℕ) → Option Act
+act_of spec verb words =
+    if bytes_eq verb (codes "step") then step_of words else (ask_of spec verb words >>= λ q. Some (act.Ask q outcome.Ok))
 
 abbrev pub event_of_words : WorldSpec → List (List ℕ) → Option Event
 event_of_words spec (client ∷ verb ∷ words) =
-    number_in 1 spec.clients client >>= λ c. ask_of spec verb words >>= λ q. Some (event.Of c (act.Ask q outcome.Ok))
+    number_in 1 spec.clients client >>= λ c. act_of spec verb words >>= λ a. Some (event.Of c a)
 event_of_words spec _ = None
 
 -- the event that a line is

@@ -72,17 +72,10 @@ impl Publish {
         self.latest.as_ref()
     }
 
-    /// The manifest that was read last, or the one that was published, with its etag; the publication ends.
+    /// The manifest that was read last, or the one that was put, with its etag; the publication ends.
     pub fn into_latest(self) -> Option<Latest>
         ensures { result ≡ self.latest }
     {
-        let Publish {
-            writer: _,
-            id: _,
-            latest,
-            refused: _,
-            block: _,
-        } = self;
-        latest
+        self.latest
     }
 }

@@ -216,9 +216,6 @@ fn unknown_outcome(rt: HostRuntime) -> Result<(), Fail> {
     );
     assert_eq!(rt; store.faults, 1);
     assert_eq!(rt; publication.manifest().ok_or("it is kept")?.number, 1);
-    let latest = publication.into_latest().ok_or("it is kept")?;
-    assert_eq!(rt; latest.manifest.number, 1);
-    assert_eq!(rt; latest.etag, 1);
     Ok(())
 }
 

@@ -1,6 +1,6 @@
 ghost use Rattle.std.specs.Prelude.{◌≡◌, codes, false};
 ghost use Rattle.std.specs.Str.{bytes_eq};
-ghost use Rattle.bcv_model.specs.Script.{ask_of, begin_of, read_of, step_of, create_of, new_of, event_of_words};
+ghost use Rattle.bcv_model.specs.Script.{act_of, ask_of, begin_of, copy_of, create_of, drop_of, event_of_words, new_of, outcome_of, read_of, step_of};
 ghost use Rattle.bcv_script.specs.Reading.{Reads};
 
 use crate::fault::LineFault;
@@ -18,14 +18,22 @@ pub fn event(alloc: Global, spec: &WorldSpec, words: &mut Words) -> Result<Event
     let client = words.next().ok_or(LineFault::BadLine)?;
     let verb = words.next().ok_or(LineFault::BadLine)?;
     let client = number(client, 1, u64::from(spec.clients)).ok_or(LineFault::BadLine)? as u8;
-    let ask = ask(alloc, spec, verb, words)?;
-    Ok(Event::Of {
-        client,
-        act: Act::Ask(ask, Outcome::Ok),
-    })
+    let act = act(alloc, spec, verb, words)?;
+    Ok(Event::Of { client, act })
 }
 
-// What a client is asked, by the line's second word.
+// What happens to a client, by the line's second word.
+fn act(alloc: Global, spec: &WorldSpec, verb: &[u8], words: &mut Words) -> Result<Act, LineFault>
+    ensures { Reads result (act_of spec.now verb.now words.old) }
+{
+    if verb == b"step".as_slice() {
+        return step(words).ok_or(LineFault::BadLine);
+    }
+    let ask = ask(alloc, spec, verb, words)?;
+    Ok(Act::Ask(ask, Outcome::Ok))
+}
+
+// What a client is asked without a step, by the line's second word.
 fn ask(alloc: Global, spec: &WorldSpec, verb: &[u8], words: &mut Words) -> Result<Ask, LineFault>
     ensures { Reads result (ask_of spec.now verb.now words.old) }
 {
@@ -45,8 +53,10 @@ fn short_ask(spec: &WorldSpec, verb: &[u8], words: &mut Words) -> Option<Ask>
         read(words)
     } else if verb == b"create".as_slice() {
         create(spec, words)
-    } else if verb == b"step".as_slice() {
-        step(words)
+    } else if verb == b"copy".as_slice() {
+        copy(words)
+    } else if verb == b"drop".as_slice() {
+        remove(words)
     } else {
         None
     }
@@ -95,12 +105,48 @@ fn read(words: &mut Words) -> Option<Ask>
     })
 }
 
-fn step(words: &mut Words) -> Option<Ask>
+fn copy(words: &mut Words) -> Option<Ask>
+    ensures { result ≡ copy_of words.old }
+{
+    let from = words.next()?;
+    let to = words.next()?;
+    words.end()?;
+    Some(Ask::Copy {
+        from: DbName::read(from)?,
+        to: DbName::read(to)?,
+    })
+}
+
+fn remove(words: &mut Words) -> Option<Ask>
+    ensures { result ≡ drop_of words.old }
+{
+    let db = words.next()?;
+    words.end()?;
+    Some(Ask::Remove(DbName::read(db)?))
+}
+
+fn step(words: &mut Words) -> Option<Act>
     ensures { result ≡ step_of words.old }
 {
     let task = words.next()?;
-    words.end()?;
-    Some(Ask::Step {
-        task: number(task, 1, 16)? as u8,
-    })
+    let task = number(task, 1, 16)? as u8;
+    let outcome = outcome(words)?;
+    Some(Act::Ask(Ask::Step { task }, outcome))
+}
+
+// The outcome that a step's line sets for its request.
+fn outcome(words: &mut Words) -> Option<Outcome>
+    ensures { result ≡ outcome_of words.old }
+{
+    match words.next() {
+        None => Some(Outcome::Ok),
+        Some(word) => {
+            words.end()?;
+            if word == b"fail".as_slice() {
+                Some(Outcome::Fail)
+            } else {
+                None
+            }
+        }
+    }
 }

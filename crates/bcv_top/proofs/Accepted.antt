@@ -128,7 +128,7 @@ step3 : (page : Page) → Next (s2 x) (asks (ask.NewDb (codes "a") 512 (page ∷
 step3 page = (here (first x ∷ []) 1024 100 75 m.new_up, is_here (first x ∷ []) 1024 100 75 m.new_up, (refl, (refl, first_free, refl, is_fourth, refl, refl)))
 
 step4 : (page : Page) → Next (s3 page x y) (asks (ask.Step 1)) (says (reply.Working 2)) (draws 0) (s4 page x y)
-step4 page = (here (first x ∷ []) 1024 100 75 (u3 page y), is_here (first x ∷ []) 1024 100 75 (u3 page y), (refl, (first x, refl, (refl, refl), refl)))
+step4 page = (here (first x ∷ []) 1024 100 75 (u3 page y), is_here (first x ∷ []) 1024 100 75 (u3 page y), (refl, (first x, refl, refl, refl, refl)))
 
 step5 : (page : Page) → Next (s4 page x y) (asks (ask.Step 1)) (says (reply.Working 1)) (draws 0) (s5 page x y)
 step5 page = (here (first x ∷ []) 1024 100 75 (u4 page y), is_here (first x ∷ []) 1024 100 75 (u4 page y), (refl, (refl, refl)))

@@ -102,7 +102,7 @@ stops : (taken rest line written w : List ℕ) (lines : List (List ℕ)) (replie
     → Splits taken lines rest → IsNext ended lines rest line → BeginsWith ended taken (lines ++ line ∷ []) → Led old lines replies → written ≡ replies_text replies → n ≡ length lines + 1
     → Ends s n old new line w → Replays s (kept_at s new) taken ended (written ++ w)
 stops taken rest line written w lines replies ended old new n (status.BadScript at place) s i all l t c e =
-    (e.1, (lines, rest, line, replies, e.0 ∙ c, s, i, subst (λ (x : Option World). StopsAt lines x replies line) (sym e.3) (e.4 lines replies l), same_text replies written w t e.2))
+    (e.1, (lines, rest, line, replies, e.0 ∙ c, s, i, subst (λ (x : Option World). StopsAt lines x replies line) (sym e.3) (led_leads old lines replies l, e.4), same_text replies written w t e.2))
 stops taken rest line written w lines replies ended old new n status.WriteFault s i all l t c e = (
   lines ++ line ∷ [],
   replies,

@@ -61,7 +61,7 @@ only3 : (page : Page) (x : Id16) (c : Choice) (b : m.State) → Next (s2 x) (ask
 only3 page x c b n = (asked_there (first x ∷ []) 1024 100 75 m.new_up (ask.NewDb (codes "a") 512 (page ∷ [])) (says (reply.Task 1 3)) c b n).1.5
 
 only4 : (page : Page) (x y : Id16) (c : Choice) (b : m.State) → Next (s3 page x y) (asks (ask.Step 1)) (says (reply.Working 2)) c b → b ≡ s4 page x y
-only4 page x y c b n = (asked_there (first x ∷ []) 1024 100 75 (u3 page y) (ask.Step 1) (says (reply.Working 2)) c b n).1.3
+only4 page x y c b n = (asked_there (first x ∷ []) 1024 100 75 (u3 page y) (ask.Step 1) (says (reply.Working 2)) c b n).1.4
 
 only5 : (page : Page) (x y : Id16) (c : Choice) (b : m.State) → Next (s4 page x y) (asks (ask.Step 1)) (says (reply.Working 1)) c b → b ≡ s5 page x y
 only5 page x y c b n = (asked_there (first x ∷ []) 1024 100 75 (u4 page y) (ask.Step 1) (says (reply.Working 1)) c b n).1.1

@@ -15,25 +15,22 @@ use Rattle.bcv_script.specs.Reading.{IsFault}
 use Rattle.bcv_script.specs.declared.fault.LineFault.{LineFault}
 use Rattle.bcv_script.specs.declared.fault.LineFault.TheVariants as fault
 use Rattle.bcv_world.specs.declared.world.World.{World}
-use Rattle.bcv_world.specs.FirstPath.{is_world}
-use Rattle.bcv_world.specs.Stands.{Mirrors, IsGood, allows}
-use Rattle.bcv_world.specs.Moves.{Applies, AllowsExactly}
+use Rattle.bcv_world.specs.Given.{is_world}
+use Rattle.bcv_world.specs.Stands.{Mirrors, IsGood}
+use Rattle.bcv_world.specs.Moves.{Applies}
 use Rattle.bcv_top.specs.declared.output.Wrote.{Wrote}
 use Rattle.bcv_top.specs.declared.output.Wrote.TheVariants as wrote
 use Rattle.bcv_top.specs.declared.status.Status.{Status}
 use Rattle.bcv_top.specs.declared.status.Status.TheVariants as status
-use Rattle.bcv_top.specs.Replay.{Fixes, Runs, StopsAt, IsNoWorld, IsNoEvent, replies_text}
+use Rattle.bcv_top.specs.Replay.{Fixes, Runs, IsNoWorld, replies_text}
 use Rattle.bcv_top.specs.Writing.{Writes}
 use Rattle.bcv_top.specs.Led.{LedBy, LeadsOn, Tells, Steps, Ends, Says, SaysLast, First, Answers, listed, stopped_by, writing_end_of}
 
 -- ---- a further line
 
 pub answer_unread : (f : LineFault) (world : World) (line text : List ℕ) → IsFault f (event_of world.spec line) → Answers (Err f) world world line text
-answer_unread fault.BadLine world line text e = (refl, λ h a m. subst (IsNoEvent world.spec h) (sym e) tt)
+answer_unread fault.BadLine world line text e = (refl, e)
 answer_unread fault.NoMemory world line text e = tt
-
-pub answer_refused : (world : World) (line text : List ℕ) (e : Event) → event_of world.spec line ≡ Some e → AllowsExactly world e → allows world e ≡ false → Answers (Err fault.BadLine) world world line text
-answer_refused world line text e is exact refused = (refl, λ h a m. subst (IsNoEvent world.spec h) (sym is) (sym (exact h a m) ∙ refused))
 
 events_more : (spec : WorldSpec) (lines : List (List ℕ)) (line : List ℕ) (es : List Event) (e : Event) → map (event_of spec) lines ≡ map Some es → event_of spec line ≡ Some e
     → map (event_of spec) (lines ++ line ∷ []) ≡ map Some (es ++ e ∷ [])
@@ -42,7 +39,7 @@ events_more spec lines line es e is here =
 
 -- a run is what the world stands for, and the lines of its events
 runs_by : (w : World) (h : History) (a : State) (lines : List (List ℕ)) (replies : List Said) → map (event_of w.spec) lines ≡ map Some h.events → h.saids ≡ replies → Mirrors w h a → Runs w h a lines replies
-runs_by w h a lines replies events saids m = record { events = events; saids = saids; stand = m.stood; accepts = m.accepts; mirrors = m; versions = m.versions }
+runs_by w h a lines replies events saids m = record { events = events; saids = saids; accepts = m.accepts; mirrors = m; versions = m.versions }
 
 pub answered : (old new : World) (line text : List ℕ) (e : Event) (s : Said) → event_of old.spec line ≡ Some e → Applies old new e (Ok s) → new.spec ≡ old.spec → IsGood new → text ≡ said_text s → Answers (Ok tt) old new line text
 answered old new line text e s is applied spec good said = (
@@ -84,7 +81,7 @@ pub step_answer : (r : Result (Unit {0}) LineFault) (old new : World) (line text
 step_answer (Ok u) old new line text h =
     (Some h.0, h.1 ∙ sym (append-nil (said_text h.0)), λ lines replies l. (l.0, l.1 ++ line ∷ [], ap (λ (x : List (List ℕ)). x ++ line ∷ []) l.2, h.2 l.0 l.1 replies l.3))
 step_answer (Err fault.BadLine) old new line text h =
-    (ap (λ (w : World). Some w) h.0, λ lines replies l. subst (λ (x : List (List ℕ)). StopsAt x (Some old) replies line) (sym l.2) (l.3.h, l.3.a, l.3.fixes, l.3.runs, h.1 l.3.h l.3.a l.3.runs.mirrors))
+    (ap (λ (w : World). Some w) h.0, h.1)
 step_answer (Err fault.NoMemory) old new line text h = tt
 
 pub step_first : (w : World) (line text : List ℕ) → text ≡ [] → LedBy line w [] [] → Tells None (Some w) line text
@@ -97,7 +94,7 @@ step_first w line text e b = (
 )
 
 pub step_no_world : (f : LineFault) (line text : List ℕ) → First (Err f) line → Steps None None line text (Err f)
-step_no_world fault.BadLine line text h = (refl, λ lines replies l. subst (λ (x : List (List ℕ)). StopsAt x None replies line) (sym l.0) (l.1, h))
+step_no_world fault.BadLine line text h = (refl, h)
 step_no_world fault.NoMemory line text h = tt
 
 -- ---- a line and the writing of its reply

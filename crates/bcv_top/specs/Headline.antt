@@ -23,7 +23,7 @@ Replays status.Done world taken ended written =
     ended
     × ((first : List ℕ) × (lines : List (List ℕ)) × (replies : List Said) × AreAll taken (first ∷ lines) × Leads (first ∷ lines) world replies × (written ≡ replies_text replies))
 Replays status.BadWords world taken ended written = (world ≡ None) × (taken ≡ []) × (written ≡ [])
--- the lines in front lead to the world and to what was written, and the next one, which isn't too long, can't stand there
+-- the lines in front lead to the world and to what was written, and the next one, which isn't too long, is bad
 Replays (status.BadScript number at) world taken ended written =
     (at ≡ 0)
     × ((lines : List (List ℕ)) × (rest line : List ℕ) × (replies : List Said) × (number ≡ length lines + 1) × Splits taken lines rest × IsNext ended lines rest line

@@ -8,13 +8,13 @@ use Rattle.bcv_model.specs.Script.{world_of, event_of}
 use Rattle.bcv_script.specs.declared.fault.LineFault.{LineFault}
 use Rattle.bcv_script.specs.declared.fault.LineFault.TheVariants as fault
 use Rattle.bcv_world.specs.declared.world.World.{World}
-use Rattle.bcv_world.specs.FirstPath.{is_world}
-use Rattle.bcv_world.specs.Stands.{Mirrors, IsGood}
+use Rattle.bcv_world.specs.Given.{is_world}
+use Rattle.bcv_world.specs.Stands.{IsGood}
 use Rattle.bcv_top.specs.declared.output.Wrote.{Wrote}
 use Rattle.bcv_top.specs.declared.output.Wrote.TheVariants as wrote
 use Rattle.bcv_top.specs.declared.status.Status.{Status}
 use Rattle.bcv_top.specs.declared.status.Status.TheVariants as status
-use Rattle.bcv_top.specs.Replay.{Fixes, Runs, StopsAt, IsNoWorld, IsNoEvent, replies_text}
+use Rattle.bcv_top.specs.Replay.{Fixes, Runs, IsBad, IsNoWorld, replies_text}
 
 -- the first line fixed this world, and the lines after it, as events, led it to these replies
 pub record LedBy (first : List ℕ) (w : World) (lines : List (List ℕ)) (replies : List Said) : Type 0 where
@@ -47,23 +47,19 @@ LeadsOn old new line said = (lines : List (List ℕ)) (replies : List Said) → 
 abbrev pub Tells : Option World → Option World → List ℕ → List ℕ → Type 0
 Tells old new line text = (said : Option Said) × (text ≡ replies_text (listed said)) × LeadsOn old new line said
 
--- the line can't stand after the lines that led to this world
-abbrev pub CannotStand : Option World → List ℕ → Type 0
-CannotStand old line = (lines : List (List ℕ)) (replies : List Said) → Led old lines replies → StopsAt lines old replies line
-
--- what a line comes to: text, a bad line exactly where it can't stand, or want of memory
+-- what a line comes to: text, a bad line exactly where it is one, or want of memory
 abbrev pub Steps : Option World → Option World → List ℕ → List ℕ → Result (Unit {0}) LineFault → Type 0
 Steps old new line text (Ok _) = Tells old new line text
-Steps old new line text (Err fault.BadLine) = (new ≡ old) × CannotStand old line
+Steps old new line text (Err fault.BadLine) = (new ≡ old) × IsBad old line
 Steps old new line text (Err fault.NoMemory) = Unit {0}
 
 -- some front of the text of a line's reply was written, or nothing at all
 abbrev pub IsCut : Option World → Option World → List ℕ → List ℕ → Type 0
 IsCut old new line written = (written ≡ []) ⊎ ((text : List ℕ) × (k : ℕ) × (written ≡ take k text) × Tells old new line text)
 
--- how the line of a number ends the replay, where it does: it can't stand, or its reply was written in part
+-- how the line of a number ends the replay, where it does: it is bad, or its reply was written in part
 abbrev pub Ends : Status → ℕ → Option World → Option World → List ℕ → List ℕ → Type 0
-Ends (status.BadScript at place) number old new line written = (at ≡ number) × (place ≡ 0) × (written ≡ []) × (new ≡ old) × CannotStand old line
+Ends (status.BadScript at place) number old new line written = (at ≡ number) × (place ≡ 0) × (written ≡ []) × (new ≡ old) × IsBad old line
 Ends status.WriteFault number old new line written = (said : Said) × (k : ℕ) × (written ≡ take k (said_text said)) × LeadsOn old new line (Some said)
 Ends status.NoMemory number old new line written = IsCut old new line written
 Ends _ number old new line written = ⊥
@@ -85,7 +81,7 @@ Answers (Ok _) old new line text =
     (said : Said)
     × (text ≡ said_text said)
     × ((first : List ℕ) (lines : List (List ℕ)) (replies : List Said) → LedBy first old lines replies → LedBy first new (lines ++ line ∷ []) (replies ++ said ∷ []))
-Answers (Err fault.BadLine) old new line text = (new ≡ old) × ((h : History) (a : State) → Mirrors old h a → IsNoEvent old.spec h (event_of old.spec line))
+Answers (Err fault.BadLine) old new line text = (new ≡ old) × (event_of old.spec line ≡ None)
 Answers (Err fault.NoMemory) old new line text = Unit {0}
 
 -- how an input that has ended after whole lines ends the replay

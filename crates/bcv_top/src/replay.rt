@@ -3,7 +3,7 @@ ghost use Rattle.std.specs.Io.KnownBytes.{Appends, Consumes, IsAtEnd};
 ghost use Rattle.bcv_base.specs.Faults.{Rose};
 ghost use Rattle.bcv_top.specs.Headline.{Replays, HasCauses};
 ghost use Rattle.bcv_top.specs.Led.{IsReady, Steps, Says, SaysLast, First, Answers, end_of, stopped_by, writing_end_of, kept_at};
-ghost use Rattle.bcv_world.specs.FirstPath.{is_world};
+ghost use Rattle.bcv_world.specs.Given.{is_world};
 ghost use Rattle.bcv_world.specs.Stands.{IsGood};
 
 use crate::lines::{Lines, Next};
@@ -201,9 +201,6 @@ fn answer(
     ensures { Answers result world.old world.new line.now text.new.items }
 {
     let event = read_line(alloc, world.spec(), line)?;
-    if !world.allows(&event) {
-        return Err(LineFault::BadLine);
-    }
     let said = world.apply(alloc, event)?;
     write_reply(&said, text)?;
     Ok(())

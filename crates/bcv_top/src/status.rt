@@ -8,7 +8,7 @@ pub enum Status {
     Done,
     /// The words are no command.
     BadWords,
-    /// This line of the script, counted from 1, can't stand there; `at` is the place in it.
+    /// This line of the script, counted from 1, isn't in the grammar; `at` is the place in it.
     BadScript { line: u64, at: u32 },
     /// The input failed.
     ReadFault,

@@ -66,7 +66,7 @@ fn worlds(rt: HostRuntime) -> Result<(), Fail> {
         ("world 2 1024 512 100 2\n1 create\n", [0], None),
         ("world 1 1024 512 100 2\n", [0], Some(0)),
         ("world 1 1024 512 100 2\n1 create\n1 step 1", [0], Some(2)),
-        ("world 1 1024 512 100 2\n1 create\n1 create\n", [0], Some(1)),
+        ("world 1 1024 512 100 2\n1 create\n1 list\n", [0], Some(1)),
         (FIRST_READ, [0], Some(10)),
         (FIRST_READ, [2], Some(2)),
     ] {
@@ -92,6 +92,85 @@ fn first_read(rt: HostRuntime) -> Result<(), Fail> {
     Ok(())
 }
 
+// A container with a database of one page.
+const MADE: &str =
+    "world 1 1024 512 100 2\n1 create\n1 step 1\n1 new a aa\n1 step 1\n1 step 1\n1 step 1\n";
+
+const MADE_REPLIES: &str =
+    "task 1 working 1\n+1 done 1\ntask 1 working 3\nworking 2\nworking 1\n+2 done 2\n";
+
+// Whether a replay of these lines over that container says this of them.
+fn says(alloc: Global, lines: &str, text: &str) -> Result<bool, AllocError> {
+    let script = format!(in alloc; "{MADE}{lines}")?;
+    let replies = format!(in alloc; "{MADE_REPLIES}{text}")?;
+    let ran = replayed(alloc, script.as_bytes(), 65536, &[], &[])?;
+    Ok(ran.status == Status::Done && ran.text.as_slice() == replies.as_bytes())
+}
+
+// Copies and removals, a name that is taken, a task beside another one, requests that fail, and a pending publication.
+const COPIES: &str =
+    "1 copy a b\n1 step 1\n1 step 1\n1 copy a b\n1 step 1\n1 drop a\n1 step 1\n1 step 1\n1 begin a\n1 new c cc\n1 drop b\n1 step 1 fail\n1 copy b d\n1 step 1\n1 step 1 fail\n1 drop b\n";
+
+const COPIES_REPLIES: &str =
+    "task 1 working 2\nworking 1\n+3 done 3\ntask 1 working 2\nexists\ntask 1 working 2\nworking 1\n+4 done 4\nno-database\ntask 1 working 3\nbusy\nstore-fault\ntask 1 working 2\nworking 1\nunknown 00000000000000000000000000000009\npending\n";
+
+// A database of three blocks of two pages, read page by page.
+const SIX_PAGES: &str =
+    "1 new b 01 02 03 04 05 06\n1 step 1\n1 step 1\n1 step 1\n1 step 1\n1 step 1\n1 begin b\n1 read 1 1\n1 step 1\n1 read 1 2\n1 step 1\n1 read 1 3\n1 step 1\n1 read 1 4\n1 step 1\n1 read 1 5\n1 step 1\n1 read 1 6\n1 step 1\n1 read 1 7\n";
+
+const SIX_PAGES_REPLIES: &str =
+    "task 1 working 8\nworking 4\nworking 3\nworking 2\nworking 1\n+3 done 3\ntxn 1\ntask 1 working 1\npage 01\ntask 1 working 1\npage 02\ntask 1 working 1\npage 03\ntask 1 working 1\npage 04\ntask 1 working 1\npage 05\ntask 1 working 1\npage 06\nbad-page\n";
+
+// A copy has the pages of a database that is removed, whose open transaction goes on reading them.
+const REMOVED: &str =
+    "1 begin a\n1 copy a b\n1 step 1\n1 step 1\n1 drop a\n1 step 1\n1 step 1\n1 begin b\n1 read 1 1\n1 step 1\n1 read 2 1\n1 step 1\n";
+
+const REMOVED_REPLIES: &str =
+    "txn 1\ntask 1 working 2\nworking 1\n+3 done 3\ntask 1 working 2\nworking 1\n+4 done 4\ntxn 2\ntask 1 working 1\npage aa\ntask 1 working 1\npage aa\n";
+
+#[test]
+fn publications(rt: HostRuntime) -> Result<(), Fail> {
+    for (lines, text) in [
+        (COPIES, COPIES_REPLIES),
+        (SIX_PAGES, SIX_PAGES_REPLIES),
+        (REMOVED, REMOVED_REPLIES),
+        (
+            "1 create\n1 step 1\n1 step 3\n",
+            "task 1 working 1\nexists\nno-task\n",
+        ),
+        (
+            "1 drop b\n1 step 1\n1 copy b c\n1 step 1\n",
+            "task 1 working 2\nno-database\ntask 1 working 2\nno-database\n",
+        ),
+        (
+            "1 new b bb\n1 step 1\n1 step 1 fail\n1 begin b\n",
+            "task 1 working 3\nworking 2\nstore-fault\nno-database\n",
+        ),
+    ] {
+        assert!(rt; says(rt.alloc(), lines, text)?, "{lines}");
+    }
+    Ok(())
+}
+
+#[test]
+fn tasks(rt: HostRuntime) -> Result<(), Fail> {
+    let alloc = rt.alloc();
+    let mut lines = format!(in alloc; "1 begin a\n")?;
+    let mut text = format!(in alloc; "txn 1\n")?;
+    for number in 1..17u8 {
+        lines.push_str("1 read 1 1\n")?;
+        text.push_str(format!(in alloc; "task {number} working 1\n")?.as_str())?;
+    }
+    lines.push_str(
+        "1 read 1 1\n1 create\n1 step 5\n1 step 7 fail\n1 read 1 1\n1 create\n1 step 7\n1 step 5\n",
+    )?;
+    text.push_str(
+        "too-many\ntoo-many\npage aa\nstore-fault\ntask 5 working 1\ntask 7 working 1\nexists\npage aa\n",
+    )?;
+    assert!(rt; says(alloc, lines.as_str(), text.as_str())?);
+    Ok(())
+}
+
 #[test]
 fn scripts(rt: HostRuntime) -> Result<(), Fail> {
     for (script, status, text) in [
@@ -104,9 +183,9 @@ fn scripts(rt: HostRuntime) -> Result<(), Fail> {
             "",
         ),
         (
-            "world 1 1024 512 100 2\n1 begin a\n",
-            Status::BadScript { line: 2, at: 0 },
-            "",
+            "world 1 1024 512 100 2\n1 begin a\n1 new a aa\n1 step 1\n",
+            Status::Done,
+            "no-database\ntask 1 working 3\nno-container\n",
         ),
         (
             "world 1 1024 512 100 2\n1 create",
@@ -114,29 +193,24 @@ fn scripts(rt: HostRuntime) -> Result<(), Fail> {
             "task 1 working 1\n",
         ),
         (
-            "world 1 1024 512 100 2\n1 create\n1 create\n",
+            "world 1 1024 512 100 2\n1 create\n1 create\n1 step 1\n1 step 1\n",
+            Status::Done,
+            "task 1 working 1\nbusy\n+1 done 1\nno-task\n",
+        ),
+        (
+            "world 1 1024 512 100 2\n1 create\n1 step 1 fail\n1 create\n",
+            Status::Done,
+            "task 1 working 1\nunknown 00000000000000000000000000000002\npending\n",
+        ),
+        (
+            "world 1 1024 512 100 2\n1 create\n1 step 1\n1 new a\n1 step 1\n1 step 1\n1 new a\n1 step 1\n",
+            Status::Done,
+            "task 1 working 1\n+1 done 1\ntask 1 working 2\nworking 1\n+2 done 2\ntask 1 working 2\nexists\n",
+        ),
+        (
+            "world 1 1024 512 100 2\n1 create\n1 list\n1 step 1\n",
             Status::BadScript { line: 3, at: 0 },
             "task 1 working 1\n",
-        ),
-        (
-            "world 1 1024 512 100 2\n1 create\n1 step 1\n1 step 1\n",
-            Status::BadScript { line: 4, at: 0 },
-            "task 1 working 1\n+1 done 1\n",
-        ),
-        (
-            "world 1 1024 512 100 2\n1 create\n1 step 1\n1 begin a\n1 read 1 1\n",
-            Status::Done,
-            "task 1 working 1\n+1 done 1\nno-database\nno-txn\n",
-        ),
-        (
-            "world 1 1024 512 100 2\n1 create\n1 step 1\n1 new a 01 02 03\n",
-            Status::BadScript { line: 4, at: 0 },
-            "task 1 working 1\n+1 done 1\n",
-        ),
-        (
-            "world 1 1024 512 100 2\n1 create\n1 step 1\n1 new a\n1 step 1\n1 step 1\n1 new a\n",
-            Status::BadScript { line: 7, at: 0 },
-            "task 1 working 1\n+1 done 1\ntask 1 working 2\nworking 1\n+2 done 2\n",
         ),
         (
             "world 1 1024 512 100 2\n1 create\n\n",

@@ -1,5 +1,4 @@
-pub mod FirstPath
-pub mod Known
+pub mod Given
 pub mod Moves
 pub mod Seen
 pub mod Stands

@@ -1,11 +1,11 @@
-use Rattle.std.proofs.Common.{◌≡◌, List, ℕ, ◌++◌, Some, ap, ◌∙◌, sym, subst}
+use Rattle.std.proofs.Common.{◌≡◌, List, ℕ, ◌++◌, Some, ap, ◌∙◌, subst}
 use Rattle.std.proofs.lemmas.Result.{err_from_is_err_and}
 use Rattle.bcv_model.specs.declared.spec.WorldSpec.{WorldSpec}
 use Rattle.bcv_model.specs.ReplyText.{said_text}
 use Rattle.bcv_model.specs.Script.{event_of}
 use Rattle.bcv_script.specs.Reading.{IsFault}
 use Rattle.bcv_top.proofs.Grammar.{line_keeps}
-use Rattle.bcv_top.proofs.Stepping.{answer_unread, answer_refused, answered}
+use Rattle.bcv_top.proofs.Stepping.{answer_unread, answered}
 use Rattle.bcv_top.proofs.replay.answer.Goals as goal
 
 pub returns-in_err-event : goal.returns-in_err-event
@@ -14,15 +14,10 @@ returns-in_err-event c =
     let unread = subst (λ (s : WorldSpec). IsFault c.in_err-event.field-0.0 (event_of s c.args.line.now)) c.spec.ensures c.in_err-event.ensures in
     rw (p.1, p.2) (answer_unread c.in_err-event.field-0.0 c.args.world.now c.args.line.now c.args.text.now.items unread)
 
-pub returns-then-not-allows : goal.returns-then-not-allows
-returns-then-not-allows c =
-    let is = subst (λ (s : WorldSpec). event_of s c.args.line.now ≡ Some c.in_ok-event.event) c.spec.ensures c.in_ok-event.ensures in
-    answer_refused c.args.world.now c.args.line.now c.args.text.now.items c.in_ok-event.event is c.allows.ensures.exact (sym c.if-not-allows.ensures.test)
-
 pub apply-requires-clause-keeps : goal.apply-requires-clause-keeps
 apply-requires-clause-keeps c =
     let is = subst (λ (s : WorldSpec). event_of s c.args.line.now ≡ Some c.in_ok-event.event) c.spec.ensures c.in_ok-event.ensures in
-    line_keeps c.args.world.now.spec c.args.line.now c.in_ok-event.event c.requires.world is
+    line_keeps c.args.world.now.spec c.args.line.now c.in_ok-event.event c.requires.world c.requires.short is
 
 pub returns : goal.returns
 returns c =

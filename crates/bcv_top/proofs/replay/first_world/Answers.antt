@@ -3,7 +3,7 @@ use Rattle.std.specs.Prelude.{◌==◌}
 use Rattle.std.proofs.lemmas.Grind.{common_steps}
 use Rattle.std.proofs.lemmas.Result.{err_from_is_err_and}
 use Rattle.bcv_model.specs.MachineState.{first_state}
-use Rattle.bcv_world.specs.FirstPath.{is_world}
+use Rattle.bcv_world.specs.Given.{is_world}
 use Rattle.bcv_top.proofs.Grammar.{world_spec}
 use Rattle.bcv_top.proofs.Stepping.{first_unread, first_refused, first_fixed}
 use Rattle.bcv_top.proofs.replay.first_world.Goals as goal

@@ -2,7 +2,7 @@ use Rattle.std.proofs.Common.{◌≡◌, ◌+◌, refl, ap, subst, ◌∙◌}
 use Rattle.bcv_base.specs.declared.id.Id16.{Id16}
 use Rattle.bcv_base.specs.Numbered.{Counter, numbered}
 use Rattle.bcv_world.specs.Moves.{IsNew}
-use Rattle.bcv_world.proofs.First.{first_good, first_mirrors}
+use Rattle.bcv_world.proofs.FirstWorld.{first_good, first_mirrors}
 use Rattle.bcv_world.proofs.world.World.new.Goals as goal
 
 -- one name was drawn, which is the client's
@@ -21,7 +21,6 @@ returns-clause-good c = first_good _ (record {
   names = one_drawn c.new-names.result c.drawn-id.new.names c.new-names.ensures c.drawn-id.ensures.names;
   client = subst (λ (i : Id16). IsNew i c.new-2.result) (first_name c.new-names.result c.drawn-id.result c.new-names.ensures c.drawn-id.ensures.id) c.new-2.ensures;
   applied = refl;
-  begun = refl;
 })
 
 pub returns-clause-stands : goal.returns-clause-stands
@@ -33,5 +32,4 @@ returns-clause-stands c = first_mirrors _ (record {
   names = one_drawn c.new-names.result c.drawn-id.new.names c.new-names.ensures c.drawn-id.ensures.names;
   client = subst (λ (i : Id16). IsNew i c.new-2.result) (first_name c.new-names.result c.drawn-id.result c.new-names.ensures c.drawn-id.ensures.id) c.new-2.ensures;
   applied = refl;
-  begun = refl;
 })

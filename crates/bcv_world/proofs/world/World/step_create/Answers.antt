@@ -1,53 +1,91 @@
-use Rattle.std.proofs.Common.{◌≡◌, List, Some, Ok, subst, sym, ap, ◌∙◌, is_none, arith}
-use Rattle.bcv_base.specs.declared.log.Entry.{Entry}
-use Rattle.bcv_base.specs.declared.manifest.Manifest.{Manifest}
-use Rattle.bcv_base.specs.declared.object.ObjName.TheVariants as object
-use Rattle.bcv_base.specs.Log.{object_of}
-use Rattle.bcv_base.specs.ManifestRules.{MeetsRules, MeetsLimits}
-use Rattle.bcv_model.specs.MachineState as m
-use Rattle.bcv_model.specs.Machine.{Choice, then_said}
-use Rattle.bcv_model.specs.declared.ask.Ask.TheVariants as ask
-use Rattle.bcv_world.specs.declared.task.Task.TheVariants as task
-use Rattle.bcv_world.specs.declared.world.World.{World}
-use Rattle.bcv_world.specs.Known.{first_manifest}
-use Rattle.bcv_world.specs.Stands.{IsGood, Mirrors, asked}
-use Rattle.bcv_world.proofs.CreateLaws.{create_applies, creating_at}
-use Rattle.bcv_world.proofs.PutLaws.{as_left, planned_put, put_good}
+use Rattle.std.proofs.Common.{◌≡◌, ◌∙◌, ap, subst, sym}
+use Rattle.bcv_dbcopy.specs.declared.created.Created.TheVariants as created
+use Rattle.bcv_model.specs.declared.reply.Said.{Said}
+use Rattle.bcv_store.specs.Plans.{rest_of}
+use Rattle.bcv_world.specs.declared.task.Job.TheVariants as job
+use Rattle.bcv_world.specs.Given.{stepped}
+use Rattle.bcv_world.specs.Moves.{Goes, IsCreate}
+use Rattle.bcv_world.proofs.Appended.{ended_world, put_client, there, waiting_client}
+use Rattle.bcv_world.proofs.StepCreate.{CreatesAt, create_ends, create_done_good, create_done_goes, create_exists_good, create_exists_goes, create_unknown_good, create_unknown_goes}
 use Rattle.bcv_world.proofs.world.World.step_create.Goals as goal
 
-pub put_manifest-requires-clause-held : goal.put_manifest-requires-clause-held
-put_manifest-requires-clause-held c =
-    let runs : c.args.self.now.client.task ≡ Some (task.Create c.in-Some-Create.id c.in-Some-Create.block c.in-Some-Create.retention) = cc in
-    ap (λ (l : List Entry). is_none (object_of object.Manifest l)) c.plan.ensures.log ∙ ap is_none (creating_at c.args.self.now c.in-Some-Create.id c.in-Some-Create.block c.in-Some-Create.retention c.requires.good runs).none
+pub returns-in-Done-clause-good : goal.returns-in-Done-clause-good
+returns-in-Done-clause-good c =
+    let w = c.args.self.now in
+    let is : c.remove.result.job ≡ job.Create c.in-Create.id c.in-Create.block c.in-Create.retention = cc in
+    let at : CreatesAt w c.args.place c.args.number c.in-Create.id c.in-Create.block c.in-Create.retention =
+    record {
+      good = c.requires.good;
+      at = (there IsCreate c.args.number w.client.tasks.items c.args.place c.remove.result (job.Create c.in-Create.id c.in-Create.block c.in-Create.retention) c.remove.ensures.value c.requires.runs is).0;
+    }
+    in
+    let ends = create_ends w c.args.place c.args.number c.in-Create.id c.in-Create.block c.in-Create.retention c.args.outcome _ _ _ (created.Done c.in-Done.latest) at c.plan.ensures.log c.plan.ensures.plan (c.in-Done.ensures.told tt) (c.in-Done.ensures.sound tt) in
+    create_done_good w c.create.new.store c.args.place c.args.number c.in-Create.id c.in-Create.block c.in-Create.retention c.args.outcome c.remove.new.self c.in-Done.latest at c.remove.ensures.items (c.in-Done.ensures.taken tt ∙ ap rest_of c.plan.ensures.plan) ends
 
-pub put_manifest-requires-clause-rules : goal.put_manifest-requires-clause-rules
-put_manifest-requires-clause-rules c =
-    let runs : c.args.self.now.client.task ≡ Some (task.Create c.in-Some-Create.id c.in-Some-Create.block c.in-Some-Create.retention) = cc in
-    subst MeetsRules (sym c.in_ok-manifest.ensures) (creating_at c.args.self.now c.in-Some-Create.id c.in-Some-Create.block c.in-Some-Create.retention c.requires.good runs).follows.rules
+pub returns-in-Done-clause-goes : goal.returns-in-Done-clause-goes
+returns-in-Done-clause-goes c =
+    let w = c.args.self.now in
+    let is : c.remove.result.job ≡ job.Create c.in-Create.id c.in-Create.block c.in-Create.retention = cc in
+    let at : CreatesAt w c.args.place c.args.number c.in-Create.id c.in-Create.block c.in-Create.retention =
+    record {
+      good = c.requires.good;
+      at = (there IsCreate c.args.number w.client.tasks.items c.args.place c.remove.result (job.Create c.in-Create.id c.in-Create.block c.in-Create.retention) c.remove.ensures.value c.requires.runs is).0;
+    }
+    in
+    let ends = create_ends w c.args.place c.args.number c.in-Create.id c.in-Create.block c.in-Create.retention c.args.outcome _ _ _ (created.Done c.in-Done.latest) at c.plan.ensures.log c.plan.ensures.plan (c.in-Done.ensures.told tt) (c.in-Done.ensures.sound tt) in
+    subst (λ (s : Said). Goes w (ended_world w c.create.new.store (put_client w.client c.in-Done.latest c.remove.new.self)) (stepped c.args.number c.args.outcome) s) (sym c.published.ensures)
+    (create_done_goes w c.create.new.store c.args.place c.args.number c.in-Create.id c.in-Create.block c.in-Create.retention c.args.outcome c.remove.new.self c.in-Done.latest at c.remove.ensures.items ends)
 
-pub put_manifest-requires-clause-limits : goal.put_manifest-requires-clause-limits
-put_manifest-requires-clause-limits c =
-    let runs : c.args.self.now.client.task ≡ Some (task.Create c.in-Some-Create.id c.in-Some-Create.block c.in-Some-Create.retention) = cc in
-    subst MeetsLimits (sym c.in_ok-manifest.ensures) (creating_at c.args.self.now c.in-Some-Create.id c.in-Some-Create.block c.in-Some-Create.retention c.requires.good runs).follows.limits
+pub returns-in-Exists-clause-good : goal.returns-in-Exists-clause-good
+returns-in-Exists-clause-good c =
+    let w = c.args.self.now in
+    let is : c.remove.result.job ≡ job.Create c.in-Create.id c.in-Create.block c.in-Create.retention = cc in
+    let at : CreatesAt w c.args.place c.args.number c.in-Create.id c.in-Create.block c.in-Create.retention =
+    record {
+      good = c.requires.good;
+      at = (there IsCreate c.args.number w.client.tasks.items c.args.place c.remove.result (job.Create c.in-Create.id c.in-Create.block c.in-Create.retention) c.remove.ensures.value c.requires.runs is).0;
+    }
+    in
+    let ends = create_ends w c.args.place c.args.number c.in-Create.id c.in-Create.block c.in-Create.retention c.args.outcome _ _ _ created.Exists at c.plan.ensures.log c.plan.ensures.plan (c.in-Exists.ensures.told tt) (c.in-Exists.ensures.sound tt) in
+    create_exists_good w c.create.new.store c.args.place c.args.number c.in-Create.id c.in-Create.block c.in-Create.retention c.args.outcome c.remove.new.self at c.remove.ensures.items (c.in-Exists.ensures.taken tt ∙ ap rest_of c.plan.ensures.plan) ends
 
-pub returns-clause-good : goal.returns-clause-good
-returns-clause-good c =
-    let runs : c.args.self.now.client.task ≡ Some (task.Create c.in-Some-Create.id c.in-Some-Create.block c.in-Some-Create.retention) = cc in
-    let made = first_manifest c.args.self.now.client.id c.in-Some-Create.id c.in-Some-Create.block c.in-Some-Create.retention in
-    let added = c.in_ok-latest.ensures.added in
-    as_left IsGood c.args.self.now c.put_manifest.new.store made c.in_ok-latest.latest c.take.new.self (c.in_ok-latest.ensures.kept ∙ c.in_ok-manifest.ensures) c.take.ensures.after
-    (put_good c.args.self.now c.put_manifest.new.store made added.0 c.in_ok-latest.latest.etag c.requires.good
-    (creating_at c.args.self.now c.in-Some-Create.id c.in-Some-Create.block c.in-Some-Create.retention c.requires.good runs).follows (omega arith) (added.1 ∙ ap (λ (x : Manifest). Ok x) c.in_ok-manifest.ensures)
-    (planned_put c.args.self.now.store c.plan.new.self c.put_manifest.new.store added.0 c.in_ok-latest.latest.etag c.plan.ensures.log added.2) c.in_ok-latest.ensures.plan)
+pub returns-in-Exists-clause-goes : goal.returns-in-Exists-clause-goes
+returns-in-Exists-clause-goes c =
+    let w = c.args.self.now in
+    let is : c.remove.result.job ≡ job.Create c.in-Create.id c.in-Create.block c.in-Create.retention = cc in
+    let at : CreatesAt w c.args.place c.args.number c.in-Create.id c.in-Create.block c.in-Create.retention =
+    record {
+      good = c.requires.good;
+      at = (there IsCreate c.args.number w.client.tasks.items c.args.place c.remove.result (job.Create c.in-Create.id c.in-Create.block c.in-Create.retention) c.remove.ensures.value c.requires.runs is).0;
+    }
+    in
+    let ends = create_ends w c.args.place c.args.number c.in-Create.id c.in-Create.block c.in-Create.retention c.args.outcome _ _ _ created.Exists at c.plan.ensures.log c.plan.ensures.plan (c.in-Exists.ensures.told tt) (c.in-Exists.ensures.sound tt) in
+    subst (λ (s : Said). Goes w (ended_world w c.create.new.store (record w.client { tasks = c.remove.new.self })) (stepped c.args.number c.args.outcome) s) (sym c.plain.ensures)
+    (create_exists_goes w c.create.new.store c.args.place c.args.number c.in-Create.id c.in-Create.block c.in-Create.retention c.args.outcome c.remove.new.self at c.remove.ensures.items ends)
 
-pub returns-clause-applied : goal.returns-clause-applied
-returns-clause-applied c =
-    let runs : c.args.self.now.client.task ≡ Some (task.Create c.in-Some-Create.id c.in-Some-Create.block c.in-Some-Create.retention) = cc in
-    let made = first_manifest c.args.self.now.client.id c.in-Some-Create.id c.in-Some-Create.block c.in-Some-Create.retention in
-    let added = c.in_ok-latest.ensures.added in
-    λ h a mi.
-    as_left (λ (w : World). (x : Choice) × (b : m.State) × Mirrors w (then_said h (asked (ask.Step 1)) c.published.result x) b)
-    c.args.self.now c.put_manifest.new.store made c.in_ok-latest.latest c.take.new.self (c.in_ok-latest.ensures.kept ∙ c.in_ok-manifest.ensures) c.take.ensures.after
-    (create_applies c.args.self.now c.put_manifest.new.store added.0 c.in_ok-latest.latest.etag c.in-Some-Create.id c.in-Some-Create.block c.in-Some-Create.retention c.published.result c.requires.good runs
-    (added.1 ∙ ap (λ (x : Manifest). Ok x) c.in_ok-manifest.ensures)
-    (planned_put c.args.self.now.store c.plan.new.self c.put_manifest.new.store added.0 c.in_ok-latest.latest.etag c.plan.ensures.log added.2) c.published.ensures h a mi)
+pub returns-in-Unknown-clause-good : goal.returns-in-Unknown-clause-good
+returns-in-Unknown-clause-good c =
+    let w = c.args.self.now in
+    let is : c.remove.result.job ≡ job.Create c.in-Create.id c.in-Create.block c.in-Create.retention = cc in
+    let at : CreatesAt w c.args.place c.args.number c.in-Create.id c.in-Create.block c.in-Create.retention =
+    record {
+      good = c.requires.good;
+      at = (there IsCreate c.args.number w.client.tasks.items c.args.place c.remove.result (job.Create c.in-Create.id c.in-Create.block c.in-Create.retention) c.remove.ensures.value c.requires.runs is).0;
+    }
+    in
+    let ends = create_ends w c.args.place c.args.number c.in-Create.id c.in-Create.block c.in-Create.retention c.args.outcome _ _ _ created.Unknown at c.plan.ensures.log c.plan.ensures.plan (c.in-Unknown.ensures.told tt) (c.in-Unknown.ensures.sound tt) in
+    create_unknown_good w c.create.new.store c.args.place c.args.number c.in-Create.id c.in-Create.block c.in-Create.retention c.args.outcome c.remove.new.self at c.requires.kept c.remove.ensures.items (c.in-Unknown.ensures.taken tt ∙ ap rest_of c.plan.ensures.plan) ends
+
+pub returns-in-Unknown-clause-goes : goal.returns-in-Unknown-clause-goes
+returns-in-Unknown-clause-goes c =
+    let w = c.args.self.now in
+    let is : c.remove.result.job ≡ job.Create c.in-Create.id c.in-Create.block c.in-Create.retention = cc in
+    let at : CreatesAt w c.args.place c.args.number c.in-Create.id c.in-Create.block c.in-Create.retention =
+    record {
+      good = c.requires.good;
+      at = (there IsCreate c.args.number w.client.tasks.items c.args.place c.remove.result (job.Create c.in-Create.id c.in-Create.block c.in-Create.retention) c.remove.ensures.value c.requires.runs is).0;
+    }
+    in
+    let ends = create_ends w c.args.place c.args.number c.in-Create.id c.in-Create.block c.in-Create.retention c.args.outcome _ _ _ created.Unknown at c.plan.ensures.log c.plan.ensures.plan (c.in-Unknown.ensures.told tt) (c.in-Unknown.ensures.sound tt) in
+    subst (λ (s : Said). Goes w (ended_world w c.create.new.store (waiting_client w.client c.in-Create.id c.remove.new.self)) (stepped c.args.number c.args.outcome) s) (sym c.plain-in-Unknown.ensures)
+    (create_unknown_goes w c.create.new.store c.args.place c.args.number c.in-Create.id c.in-Create.block c.in-Create.retention c.args.outcome c.remove.new.self at c.requires.kept c.remove.ensures.items ends)

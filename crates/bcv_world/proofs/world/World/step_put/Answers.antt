@@ -1,61 +1,80 @@
-use Rattle.std.proofs.Common.{◌≡◌, ◌∙◌, List, Some, Ok, sym, ap, subst, arith}
-use Rattle.bcv_base.specs.declared.log.Entry.{Entry}
-use Rattle.bcv_base.specs.declared.manifest.Manifest.{Manifest}
-use Rattle.bcv_base.specs.declared.object.ObjName.TheVariants as object
-use Rattle.bcv_base.specs.Log.{object_of}
-use Rattle.bcv_base.specs.ManifestRules.{MeetsRules, MeetsLimits}
-use Rattle.bcv_model.specs.MachineState as m
-use Rattle.bcv_model.specs.Machine.{Choice, then_said}
-use Rattle.bcv_model.specs.declared.ask.Ask.TheVariants as ask
-use Rattle.bcv_store.specs.Asked.{has_etag}
-use Rattle.bcv_world.specs.declared.task.Task.TheVariants as task
-use Rattle.bcv_world.specs.declared.world.World.{World}
-use Rattle.bcv_world.specs.Known.{next_manifest}
-use Rattle.bcv_world.specs.Moves.{made_entry}
-use Rattle.bcv_world.specs.Stands.{IsGood, Mirrors, asked}
-use Rattle.bcv_world.proofs.NewLaws.{at_put, put_applies}
-use Rattle.bcv_world.proofs.PutLaws.{as_left, planned_put, put_good, done_said}
+use Rattle.std.proofs.Common.{◌≡◌, true, MatchOption, Option, subst, sym}
+use Rattle.bcv_base.specs.declared.seen.Latest.{Latest}
+use Rattle.bcv_dbcopy.specs.Putting.{PutLeaves}
+use Rattle.bcv_dbcopy.specs.State.{IsTask}
+use Rattle.bcv_memstore.specs.Told.{log_of, plan_of}
+use Rattle.bcv_model.specs.declared.reply.Said.{Said}
+use Rattle.bcv_publish.specs.declared.work.PutEnd.TheVariants as put
+use Rattle.bcv_publish.specs.Putting.{made}
+use Rattle.bcv_world.specs.declared.task.Job.TheVariants as job
+use Rattle.bcv_world.specs.Given.{stepped}
+use Rattle.bcv_world.specs.Moves.{Goes, IsPublish, published}
+use Rattle.bcv_world.specs.Stands.{IsGood}
+use Rattle.bcv_world.proofs.Appended.{ended_world, there, waiting_client}
+use Rattle.bcv_world.proofs.StepPut.{PutTold, PutSays, counts_on, kept_client, never, put_ends, put_done_good, put_done_goes, put_unknown_good, put_unknown_goes, puts_at, taken_plan}
 use Rattle.bcv_world.proofs.world.World.step_put.Goals as goal
 
-pub put_manifest-requires-clause-held : goal.put_manifest-requires-clause-held
-put_manifest-requires-clause-held c =
-    let runs : c.args.self.now.client.task ≡ Some (task.New c.in-Some-New.task) = cc in
-    let here = at_put c.args.self.now c.in-Some-New.task c.in-Some.field-0 c.entry_of.result c.in_ok-manifest.manifest c.requires.good c.requires.few runs c.requires.runs (sym c.take-2.ensures.value ∙ c.in-Some.is) c.entry_of.ensures c.in_ok-manifest.ensures in
-    ap (λ (l : List Entry). has_etag (object_of object.Manifest l) c.in-Some.field-0.etag) c.plan.ensures.log ∙ here.held
+pub unreachable-requires-in-Refused : goal.unreachable-requires-in-Refused
+unreachable-requires-in-Refused c =
+    let w = c.args.self.now in
+    let s = c.in-Publish.task in
+    let is : c.remove.result.job ≡ job.Publish c.in-Publish.id s = cc in
+    let task : IsTask s = rw is at c.ready.ensures.task in
+    let at = puts_at w c.args.place c.args.number c.in-Publish.id s c.requires.good (there (IsPublish true) c.args.number w.client.tasks.items c.args.place c.remove.result (job.Publish c.in-Publish.id s) c.remove.ensures.value c.requires.runs is) task in
+    let told : PutTold (plan_of c.plan.new.self) (log_of c.plan.new.self) (log_of c.put.new.store) s c.put.result c.put.new.self = rw is at c.put.ensures.told tt in
+    let says : PutSays (plan_of c.plan.new.self) (log_of c.plan.new.self) (log_of c.put.new.store) s c.put.result c.put.new.self = rw is at c.put.ensures.sound tt in
+    let ends = put_ends w c.args.place c.args.number c.in-Publish.id s c.put.new.self at.0 c.args.outcome (plan_of c.plan.new.self) (log_of c.plan.new.self) (log_of c.put.new.store) c.put.result at.1 c.plan.ensures.log c.plan.ensures.plan told says in
+    never c.args.outcome (log_of w.store) (log_of c.put.new.store) at.0 (made s.publish at.0 s.edit 0) c.put.result c.put.new.self.publish.latest ends c.in-Refused.is
 
-pub put_manifest-requires-clause-rules : goal.put_manifest-requires-clause-rules
-put_manifest-requires-clause-rules c =
-    let runs : c.args.self.now.client.task ≡ Some (task.New c.in-Some-New.task) = cc in
-    let here = at_put c.args.self.now c.in-Some-New.task c.in-Some.field-0 c.entry_of.result c.in_ok-manifest.manifest c.requires.good c.requires.few runs c.requires.runs (sym c.take-2.ensures.value ∙ c.in-Some.is) c.entry_of.ensures c.in_ok-manifest.ensures in
-    subst MeetsRules (sym here.made_is) here.putting.follows.rules
+pub returns-in-Published-clause-good : goal.returns-in-Published-clause-good
+returns-in-Published-clause-good c =
+    let w = c.args.self.now in
+    let s = c.in-Publish.task in
+    let is : c.remove.result.job ≡ job.Publish c.in-Publish.id s = cc in
+    let task : IsTask s = rw is at c.ready.ensures.task in
+    let at = puts_at w c.args.place c.args.number c.in-Publish.id s c.requires.good (there (IsPublish true) c.args.number w.client.tasks.items c.args.place c.remove.result (job.Publish c.in-Publish.id s) c.remove.ensures.value c.requires.runs is) task in
+    let told : PutTold (plan_of c.plan.new.self) (log_of c.plan.new.self) (log_of c.put.new.store) s (put.Published c.in-Published.version) c.put.new.self = rw is at c.in-Published.ensures.told tt in
+    let says : PutSays (plan_of c.plan.new.self) (log_of c.plan.new.self) (log_of c.put.new.store) s (put.Published c.in-Published.version) c.put.new.self = rw is at c.in-Published.ensures.sound tt in
+    let ends = put_ends w c.args.place c.args.number c.in-Publish.id s c.put.new.self at.0 c.args.outcome (plan_of c.plan.new.self) (log_of c.plan.new.self) (log_of c.put.new.store) (put.Published c.in-Published.version) at.1 c.plan.ensures.log c.plan.ensures.plan told says in
+    subst (λ (x : Option Latest). IsGood (ended_world w c.put.new.store (kept_client w.client x c.remove.new.self))) (sym c.into_latest.ensures)
+    (put_done_good w c.put.new.store c.args.place c.args.number c.in-Publish.id s at.0 c.args.outcome c.remove.new.self c.in-Published.version c.put.new.self.publish.latest at.1 c.remove.ensures.items (taken_plan c.args.outcome (plan_of c.plan.new.self) (plan_of c.put.new.store) (put.Published c.in-Published.version) _ c.plan.ensures.plan (λ e. cc) (c.in-Published.ensures.taken tt)) ends)
 
-pub put_manifest-requires-clause-limits : goal.put_manifest-requires-clause-limits
-put_manifest-requires-clause-limits c =
-    let runs : c.args.self.now.client.task ≡ Some (task.New c.in-Some-New.task) = cc in
-    let here = at_put c.args.self.now c.in-Some-New.task c.in-Some.field-0 c.entry_of.result c.in_ok-manifest.manifest c.requires.good c.requires.few runs c.requires.runs (sym c.take-2.ensures.value ∙ c.in-Some.is) c.entry_of.ensures c.in_ok-manifest.ensures in
-    subst MeetsLimits (sym here.made_is) here.putting.follows.limits
+pub returns-in-Published-clause-goes : goal.returns-in-Published-clause-goes
+returns-in-Published-clause-goes c =
+    let w = c.args.self.now in
+    let s = c.in-Publish.task in
+    let is : c.remove.result.job ≡ job.Publish c.in-Publish.id s = cc in
+    let task : IsTask s = rw is at c.ready.ensures.task in
+    let at = puts_at w c.args.place c.args.number c.in-Publish.id s c.requires.good (there (IsPublish true) c.args.number w.client.tasks.items c.args.place c.remove.result (job.Publish c.in-Publish.id s) c.remove.ensures.value c.requires.runs is) task in
+    let told : PutTold (plan_of c.plan.new.self) (log_of c.plan.new.self) (log_of c.put.new.store) s (put.Published c.in-Published.version) c.put.new.self = rw is at c.in-Published.ensures.told tt in
+    let says : PutSays (plan_of c.plan.new.self) (log_of c.plan.new.self) (log_of c.put.new.store) s (put.Published c.in-Published.version) c.put.new.self = rw is at c.in-Published.ensures.sound tt in
+    let ends = put_ends w c.args.place c.args.number c.in-Publish.id s c.put.new.self at.0 c.args.outcome (plan_of c.plan.new.self) (log_of c.plan.new.self) (log_of c.put.new.store) (put.Published c.in-Published.version) at.1 c.plan.ensures.log c.plan.ensures.plan told says in
+    let leaves : MatchOption s.publish.latest ⊥ (λ read. PutLeaves 0 s read (put.Published c.in-Published.version) c.put.new.self) = rw is at c.in-Published.ensures.leaves in
+    subst (λ (x : Said). Goes w (ended_world w c.put.new.store (kept_client w.client c.into_latest.result c.remove.new.self)) (stepped c.args.number c.args.outcome) x) (sym c.published.ensures)
+    (subst (λ (x : Option Latest). Goes w (ended_world w c.put.new.store (kept_client w.client x c.remove.new.self)) (stepped c.args.number c.args.outcome) (published c.in-Published.version)) (sym c.into_latest.ensures)
+    (put_done_goes w c.put.new.store c.args.place c.args.number c.in-Publish.id s at.0 c.args.outcome c.remove.new.self c.in-Published.version c.put.new.self.publish.latest at.1 c.remove.ensures.items (counts_on s c.put.new.self at.0 c.in-Published.version at.1.was_read leaves) ends))
 
-pub returns-clause-good : goal.returns-clause-good
-returns-clause-good c =
-    let runs : c.args.self.now.client.task ≡ Some (task.New c.in-Some-New.task) = cc in
-    let here = at_put c.args.self.now c.in-Some-New.task c.in-Some.field-0 c.entry_of.result c.in_ok-manifest.manifest c.requires.good c.requires.few runs c.requires.runs (sym c.take-2.ensures.value ∙ c.in-Some.is) c.entry_of.ensures c.in_ok-manifest.ensures in
-    let made = next_manifest c.args.self.now.client.id here.putting.latest.manifest (made_entry c.in-Some-New.task) in
-    let added = c.in_ok-latest.ensures.added in
-    as_left IsGood c.args.self.now c.put_manifest.new.store made c.in_ok-latest.latest c.take.new.self (c.in_ok-latest.ensures.kept ∙ here.made_is) c.take.ensures.after
-    (put_good c.args.self.now c.put_manifest.new.store made added.0 c.in_ok-latest.latest.etag c.requires.good here.putting.follows (omega (arith, here.putting.number))
-    (added.1 ∙ ap (λ (x : Manifest). Ok x) here.made_is)
-    (planned_put c.args.self.now.store c.plan.new.self c.put_manifest.new.store added.0 c.in_ok-latest.latest.etag c.plan.ensures.log added.2) c.in_ok-latest.ensures.plan)
+pub returns-in-Unknown-clause-good : goal.returns-in-Unknown-clause-good
+returns-in-Unknown-clause-good c =
+    let w = c.args.self.now in
+    let s = c.in-Publish.task in
+    let is : c.remove.result.job ≡ job.Publish c.in-Publish.id s = cc in
+    let task : IsTask s = rw is at c.ready.ensures.task in
+    let at = puts_at w c.args.place c.args.number c.in-Publish.id s c.requires.good (there (IsPublish true) c.args.number w.client.tasks.items c.args.place c.remove.result (job.Publish c.in-Publish.id s) c.remove.ensures.value c.requires.runs is) task in
+    let told : PutTold (plan_of c.plan.new.self) (log_of c.plan.new.self) (log_of c.put.new.store) s put.Unknown c.put.new.self = rw is at c.in-Unknown.ensures.told tt in
+    let says : PutSays (plan_of c.plan.new.self) (log_of c.plan.new.self) (log_of c.put.new.store) s put.Unknown c.put.new.self = rw is at c.in-Unknown.ensures.sound tt in
+    let ends = put_ends w c.args.place c.args.number c.in-Publish.id s c.put.new.self at.0 c.args.outcome (plan_of c.plan.new.self) (log_of c.plan.new.self) (log_of c.put.new.store) put.Unknown at.1 c.plan.ensures.log c.plan.ensures.plan told says in
+    put_unknown_good w c.put.new.store c.args.place c.args.number c.in-Publish.id s at.0 c.args.outcome c.remove.new.self c.put.new.self.publish.latest at.1 c.requires.kept c.remove.ensures.items (taken_plan c.args.outcome (plan_of c.plan.new.self) (plan_of c.put.new.store) put.Unknown _ c.plan.ensures.plan (λ e. cc) (c.in-Unknown.ensures.taken tt)) ends
 
-pub returns-clause-applied : goal.returns-clause-applied
-returns-clause-applied c =
-    let runs : c.args.self.now.client.task ≡ Some (task.New c.in-Some-New.task) = cc in
-    let here = at_put c.args.self.now c.in-Some-New.task c.in-Some.field-0 c.entry_of.result c.in_ok-manifest.manifest c.requires.good c.requires.few runs c.requires.runs (sym c.take-2.ensures.value ∙ c.in-Some.is) c.entry_of.ensures c.in_ok-manifest.ensures in
-    let made = next_manifest c.args.self.now.client.id here.putting.latest.manifest (made_entry c.in-Some-New.task) in
-    let added = c.in_ok-latest.ensures.added in
-    λ h a mi.
-    as_left (λ (w : World). (x : Choice) × (b : m.State) × Mirrors w (then_said h (asked (ask.Step 1)) c.published.result x) b)
-    c.args.self.now c.put_manifest.new.store made c.in_ok-latest.latest c.take.new.self (c.in_ok-latest.ensures.kept ∙ here.made_is) c.take.ensures.after
-    (put_applies c.args.self.now c.put_manifest.new.store c.in-Some-New.task here.putting added.0 c.in_ok-latest.latest.etag c.published.result c.requires.good runs
-    (added.1 ∙ ap (λ (x : Manifest). Ok x) here.made_is)
-    (planned_put c.args.self.now.store c.plan.new.self c.put_manifest.new.store added.0 c.in_ok-latest.latest.etag c.plan.ensures.log added.2)
-    (c.published.ensures ∙ ap (λ (x : Manifest). done_said x.number) here.made_is) h a mi)
+pub returns-in-Unknown-clause-goes : goal.returns-in-Unknown-clause-goes
+returns-in-Unknown-clause-goes c =
+    let w = c.args.self.now in
+    let s = c.in-Publish.task in
+    let is : c.remove.result.job ≡ job.Publish c.in-Publish.id s = cc in
+    let task : IsTask s = rw is at c.ready.ensures.task in
+    let at = puts_at w c.args.place c.args.number c.in-Publish.id s c.requires.good (there (IsPublish true) c.args.number w.client.tasks.items c.args.place c.remove.result (job.Publish c.in-Publish.id s) c.remove.ensures.value c.requires.runs is) task in
+    let told : PutTold (plan_of c.plan.new.self) (log_of c.plan.new.self) (log_of c.put.new.store) s put.Unknown c.put.new.self = rw is at c.in-Unknown.ensures.told tt in
+    let says : PutSays (plan_of c.plan.new.self) (log_of c.plan.new.self) (log_of c.put.new.store) s put.Unknown c.put.new.self = rw is at c.in-Unknown.ensures.sound tt in
+    let ends = put_ends w c.args.place c.args.number c.in-Publish.id s c.put.new.self at.0 c.args.outcome (plan_of c.plan.new.self) (log_of c.plan.new.self) (log_of c.put.new.store) put.Unknown at.1 c.plan.ensures.log c.plan.ensures.plan told says in
+    subst (λ (x : Said). Goes w (ended_world w c.put.new.store (waiting_client w.client c.in-Publish.id c.remove.new.self)) (stepped c.args.number c.args.outcome) x) (sym c.plain.ensures)
+    (put_unknown_goes w c.put.new.store c.args.place c.args.number c.in-Publish.id s at.0 c.args.outcome c.remove.new.self c.put.new.self.publish.latest at.1 c.requires.kept c.remove.ensures.items ends)
