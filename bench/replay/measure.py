@@ -4,12 +4,13 @@
 Reads: 10,000 and 100,000 events, most of them reads of pages; events a second, the ratio of the time per event between the
 two sizes, and the peak memory of each run.
 Publications: lines `new`, `copy` and `drop`, over 3 databases with 1,000 and with 10,000 versions and over 300 with 1,000;
-the time per event, and for 3 databases its ratio between the two sizes.
+the time per event, and for 3 databases its ratio between the two sizes. The time that a run takes without an event is taken
+off each time.
 
 Run at the top of the repository, after `./run bcvutil - - replay < examples/first-read.script` has built the program:
     python3 bench/replay/measure.py [PROGRAM]
 It ends with status 1 where the time per event grows by half or more, in either part."""
-import os, subprocess, sys, time
+import os, subprocess, sys, tempfile, time
 
 BUILT = os.path.join(os.path.dirname(os.path.abspath(__file__)), "../../crates/bcvutil/out/bcvutil")
 PROGRAM = sys.argv[1] if len(sys.argv) > 1 else BUILT
@@ -66,42 +67,58 @@ def seconds_of(text, count):
     return best, out
 
 
-def peak(text):
-    """The peak memory of one run, in KiB, by a process of its own, so that runs don't hide each other."""
-    code = ("import resource, subprocess, sys; p = subprocess.run([%r, '-', '-', 'replay'], stdin=sys.stdin, stdout=subprocess.DEVNULL); "
-            "print(resource.getrusage(resource.RUSAGE_CHILDREN).ru_maxrss)" % PROGRAM)
-    done = subprocess.run([sys.executable, "-c", code], input=text.encode(), stdout=subprocess.PIPE)
-    return int(done.stdout)
+def start_up():
+    """The shortest time of a run that applies no event."""
+    return seconds_of("world 1 4096 512 100 2\n", 0)[0]
 
 
-def measure_reads():
+def peak(text, out):
+    """The peak memory of one run, in KiB, as the system tells it of the program once it has answered all lines."""
+    with tempfile.TemporaryFile() as answers:
+        child = subprocess.Popen([PROGRAM, "-", "-", "replay"], stdin=subprocess.PIPE, stdout=answers)
+        child.stdin.write(text.encode())
+        child.stdin.flush()
+        while os.fstat(answers.fileno()).st_size < len(out):
+            time.sleep(0.001)
+        with open("/proc/%d/status" % child.pid) as status:
+            most = next(int(line.split()[1]) for line in status if line.startswith("VmHWM:"))
+        child.stdin.close()
+        child.wait()
+    return most
+
+
+def measure_reads(start):
     per = []
     for size in (10_000, 100_000):
         text, count = reads(size)
-        seconds, _ = seconds_of(text, count)
+        whole, out = seconds_of(text, count)
+        seconds = whole - start
         per.append(seconds / count)
-        print("%7d events: %9.0f events a second, peak memory %d KiB" % (count, count / seconds, peak(text)))
+        print("%7d events: %9.0f events a second, peak memory %d KiB" % (count, count / seconds, peak(text, out)))
     print("time per event, large to small: %.2f" % (per[1] / per[0]))
     return per[1] / per[0]
 
 
-def measure_publications():
+def measure_publications(start):
     per = {}
     for databases, versions in (3, 1_000), (3, 10_000), (300, 1_000):
         text, count = publications(databases, versions)
-        seconds, out = seconds_of(text, count)
+        whole, out = seconds_of(text, count)
+        seconds = whole - start
         made = out.count(b"\n+") + out.startswith(b"+")
         # Four versions make a round, so the last ones may be missing.
         if not versions - 4 < made <= versions:
             sys.exit("%d versions were published in place of %d" % (made, versions))
         per[databases, versions] = seconds / count
         print("%3d databases, %5d versions: %6d events, %8.2f microseconds an event, peak memory %d KiB"
-              % (databases, made, count, 1e6 * seconds / count, peak(text)))
+              % (databases, made, count, 1e6 * seconds / count, peak(text, out)))
     ratio = per[3, 10_000] / per[3, 1_000]
     print("time per event over 3 databases, 10,000 versions to 1,000: %.2f" % ratio)
     return ratio
 
 
 if __name__ == "__main__":
-    ratios = measure_reads(), measure_publications()
+    start = start_up()
+    print("start-up, which is taken off: %.1f milliseconds" % (1e3 * start))
+    ratios = measure_reads(start), measure_publications(start)
     sys.exit(0 if max(ratios) < 1.5 else 1)
