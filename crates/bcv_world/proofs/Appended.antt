@@ -1,8 +1,8 @@
 -- What fits still does where a publishing task has ended: behind a manifest that was published, or with its publication pending.
-use Rattle.std.proofs.Common.{◌≡◌, ◌⊎◌, inl, inr, ℕ, zero, suc, ◌+◌, ◌≤◌, Bool, true, false, true≢false, ◌||◌, List, [], ◌∷◌, ◌++◌, append-nil, length, map, Option, Some, None, IfSome, is_some, Result, slice_get, get_or, remove, Vec, unwrap_or, length-append, refl, sym, ap, ◌∙◌, subst, arith}
-use Rattle.std.proofs.lemmas.List.{append_cancel_left}
+use Rattle.std.proofs.Common.{◌≡◌, inl, inr, ℕ, zero, suc, ◌+◌, ◌≤◌, Bool, true, false, ◌||◌, List, [], ◌∷◌, ◌++◌, append-nil, length, map, Option, Some, None, IfSome, is_some, Result, slice_get, get_or, remove, Vec, unwrap_or, length-append, refl, sym, ap, ◌∙◌, subst, arith}
 use Rattle.std.specs.declared.alloc.Global.{Global}
 use Rattle.std.specs.Option.{option_to_list}
+use Rattle.std.specs.List.{AllByRecursion}
 use Rattle.bcv_base.specs.declared.id.Id16.{Id16}
 use Rattle.bcv_base.specs.declared.log.Entry.{Entry}
 use Rattle.bcv_base.specs.declared.log.Entry.TheVariants as entry
@@ -17,12 +17,10 @@ use Rattle.bcv_base.specs.HistoryLaws.{id_eq-is, history_of-more}
 use Rattle.bcv_base.specs.Ids.{id_eq}
 use Rattle.bcv_base.specs.Joined.{joined, pages_of}
 use Rattle.bcv_base.specs.Keyed.{keyed}
-use Rattle.bcv_base.specs.Log.{is_own}
 use Rattle.bcv_base.specs.ManifestRules.{writer_id}
 use Rattle.bcv_base.specs.Numbered.{numbered}
 use Rattle.bcv_base.specs.Version.{Version}
 use Rattle.bcv_base.specs.Versions.{versions_of}
-use Rattle.bcv_dbmap.specs.Honest.{AreHonest, GrewHonestly}
 use Rattle.bcv_dbmap.specs.Past.{has_version, was_deleted}
 use Rattle.bcv_dbmap.specs.Sound.{Sound}
 use Rattle.bcv_memstore.specs.declared.mem_store.MemStore.{MemStore}
@@ -39,7 +37,8 @@ use Rattle.bcv_world.specs.declared.txn.Txn.{Txn}
 use Rattle.bcv_world.specs.declared.world.World.{World}
 use Rattle.bcv_world.specs.Moves.{Runs, state_of}
 use Rattle.bcv_world.specs.Seen.{number_in, dbs_in, block_in, retention_in, seen, seen_known, seen_pending, seen_task, seen_txn, seen_txns}
-use Rattle.bcv_world.specs.Stands.{Each, IsDrawn, IsUnpublished, Fits, FitsJob, FitsTask, FitsTxn, IsGood, job_ids, publication_ids}
+use Rattle.bcv_world.specs.Stands.{IsDrawn, IsUnpublished, Fits, FitsJob, FitsTask, FitsTxn, IsGood, job_ids, publication_ids}
+use Rattle.bcv_world.proofs.OwnGrowth.{AddsOwn}
 use Rattle.bcv_world.proofs.DrawnNames.{drawn_later, next_drawn}
 use Rattle.bcv_world.proofs.Going.{fits_out}
 use Rattle.bcv_world.proofs.Here.{here_at}
@@ -67,7 +66,7 @@ txns_published n past number (t ∷ ts) =
     ap (λ (bytes : List ℕ). txn_over number t bytes ∷ seen_txns (Published n ∷ past) (number + 1) ts) (joined_published n past t.blocks)
     ∙ ap (λ (l : List m.Txn). seen_txn past number t ∷ l) (txns_published n past (number + 1) ts)
 
-txns_fit : (n : Manifest) (past : List Item) (spec : WorldSpec) (ts : List Txn) → Each (FitsTxn past spec) ts → Each (FitsTxn (Published n ∷ past) spec) ts
+txns_fit : (n : Manifest) (past : List Item) (spec : WorldSpec) (ts : List Txn) → AllByRecursion (FitsTxn past spec) ts → AllByRecursion (FitsTxn (Published n ∷ past) spec) ts
 txns_fit n past spec [] each = tt
 txns_fit n past spec (t ∷ ts) each = (record { page_size = each.0.page_size; blocks = each.0.blocks; there = λ i h. each.0.there i h }, txns_fit n past spec ts each.1)
 
@@ -85,19 +84,6 @@ there does number (u ∷ us) zero t j is runs same =
 there does number (u ∷ us) (suc place) t j is runs same = there does number us place t j is runs same
 
 -- ---- what a request of one's own adds
-
--- nothing, or one own entry
-abbrev pub AddsOwn : List Entry → List Entry → Type 0
-AddsOwn log after = (after ≡ log) ⊎ ((e : Entry) × (is_own e ≡ true) × (after ≡ log ++ e ∷ []))
-
-own_honest : (mine : List Id16) (past : List Item) (e : Entry) → is_own e ≡ true → AreHonest mine past (e ∷ [])
-own_honest mine past e own = ((λ foreign. absurd (true≢false (sym own ∙ foreign))), tt)
-
-pub grew_own : (mine : List Id16) (log after : List Entry) → AddsOwn log after → GrewHonestly mine log after
-grew_own mine log after (inl none) added is =
-    subst (AreHonest mine (history_of log)) (append_cancel_left log [] added (append-nil log ∙ sym none ∙ is)) tt
-grew_own mine log after (inr one) added is =
-    subst (AreHonest mine (history_of log)) (append_cancel_left log (one.0 ∷ []) added (sym one.2 ∙ is)) (own_honest mine (history_of log) one.0 one.1)
 
 -- where no others are
 pub adds_alone : (log others after : List Entry) → others ≡ [] → AddsOwn (log ++ others) after → AddsOwn log after
@@ -168,7 +154,7 @@ job_fits log after spec count txns (job.Create id block retention) none fits = a
 job_fits log after spec count txns (job.Publish id s) none fits = absurd (cc)
 job_fits log after spec count txns (job.Read txn page) none fits = fits
 
-tasks_fit : (log after : List Entry) (spec : WorldSpec) (count : ℕ) (txns : List Txn) (ts : List Task) → length (ids_of ts) ≡ 0 → Each (FitsTask log spec count txns) ts → Each (FitsTask after spec count txns) ts
+tasks_fit : (log after : List Entry) (spec : WorldSpec) (count : ℕ) (txns : List Txn) (ts : List Task) → length (ids_of ts) ≡ 0 → AllByRecursion (FitsTask log spec count txns) ts → AllByRecursion (FitsTask after spec count txns) ts
 tasks_fit log after spec count txns [] none each = tt
 tasks_fit log after spec count txns (t ∷ ts) none each =
     let both : length (ids_of (t ∷ ts)) ≡ length (job_ids t.job) + length (ids_of ts) = length-append (job_ids t.job) (ids_of ts) in (
@@ -181,7 +167,7 @@ tasks_fit log after spec count txns (t ∷ ts) none each =
 -- a manifest over the world's blocks and pages, with the client's line in its writers table
 pub record IsNext (spec : WorldSpec) (n : Manifest) : Type 0 where
   pub block : n.block ≡ spec.block
-  pub pages : Each (λ (d : DbEntry). d.page_size ≡ spec.page) n.dbs
+  pub pages : AllByRecursion (λ (d : DbEntry). d.page_size ≡ spec.page) n.dbs
   pub wrote : is_some (keyed writer_id (numbered 1).0 n.writers) ≡ true
 
 -- the client behind the end of a task that published
@@ -216,7 +202,7 @@ fits_put log after spec count c place t v l fits at single is history sound draw
       pending = subst (λ (o : Option Id16). IfSome o (IsUnpublished (history_of after) count)) (sym one.pending) tt;
       one = out.one;
       few_txns = fits.few_txns;
-      txns = subst (λ (p : List Item). Each (FitsTxn p spec) c.txns.items) (sym history) (txns_fit l.manifest (history_of log) spec c.txns.items fits.txns);
+      txns = subst (λ (p : List Item). AllByRecursion (FitsTxn p spec) c.txns.items) (sym history) (txns_fit l.manifest (history_of log) spec c.txns.items fits.txns);
       few_tasks = out.few_tasks;
       numbers = out.numbers;
       tasks = tasks_fit log after spec count c.txns.items v.items none out.tasks;

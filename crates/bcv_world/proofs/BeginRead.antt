@@ -34,7 +34,7 @@ use Rattle.bcv_world.specs.declared.world.World.{World}
 use Rattle.bcv_world.specs.Given.{done}
 use Rattle.bcv_world.specs.Moves.{Begun, Goes, ReadStarts, plain, state_of, txn_of}
 use Rattle.bcv_world.specs.Seen.{dbs_in, number_in, numbered_txn, seen_task, seen_txn, seen_txns, seen_up, task_numbers}
-use Rattle.bcv_world.specs.Stands.{Each, Fits, FitsJob, FitsLatest, FitsRead, FitsTask, FitsTxn, IsGood, IsLatest}
+use Rattle.bcv_world.specs.Stands.{Fits, FitsJob, FitsLatest, FitsRead, FitsTask, FitsTxn, IsGood, IsLatest}
 use Rattle.bcv_world.proofs.Going.{no_choice}
 use Rattle.bcv_world.proofs.Here.{database_seen, here_at, length_seen, next_number, numbers, seen_push, view_seen}
 use Rattle.bcv_world.proofs.MoreTasks.{each_push, fits_started, free_seen, goes_ask, good_after, seen_more}
@@ -46,7 +46,7 @@ with_client w c = record w { client = c; applied = w.applied + 1 }
 
 -- ---- the entry of a name
 
-each_keyed : (P : DbEntry → Type 0) (k : List ℕ) (ds : List DbEntry) (d : DbEntry) → Each P ds → keyed db_name k ds ≡ Some d → P d
+each_keyed : (P : DbEntry → Type 0) (k : List ℕ) (ds : List DbEntry) (d : DbEntry) → AllByRecursion P ds → keyed db_name k ds ≡ Some d → P d
 each_keyed P k [] d each at = absurd (none_some d at)
 each_keyed P k (x ∷ xs) d each at =
     elim (bytes_eq (db_name x) k) as (λ (b : Bool). cond b (Some x) (keyed db_name k xs) ≡ Some d → P d) [
@@ -115,7 +115,7 @@ job_push log spec count ts t (job.Publish id s) fits = fits
 job_push log spec count ts t (job.Read txn page) fits =
     record { open_txn = fits.open_txn; is = numbered_push txn ts fits.open_txn t fits.is; from_one = fits.from_one; inside = fits.inside }
 
-tasks_push : (log : List Entry) (spec : WorldSpec) (count : ℕ) (txns : List Txn) (t : Txn) (ts : List Task) → Each (FitsTask log spec count txns) ts → Each (FitsTask log spec count (txns ++ t ∷ [])) ts
+tasks_push : (log : List Entry) (spec : WorldSpec) (count : ℕ) (txns : List Txn) (t : Txn) (ts : List Task) → AllByRecursion (FitsTask log spec count txns) ts → AllByRecursion (FitsTask log spec count (txns ++ t ∷ [])) ts
 tasks_push log spec count txns t [] each = tt
 tasks_push log spec count txns t (x ∷ xs) each =
     let one : FitsTask log spec count (txns ++ t ∷ []) x = record { from_one = each.0.from_one; most = each.0.most; fits = job_push log spec count txns t x.job each.0.fits } in
@@ -138,10 +138,10 @@ begun_fits log spec count c v db d fits at few is =
       pending = fits.pending;
       one = fits.one;
       few_txns = omega (arith, longer, few);
-      txns = subst (Each (FitsTxn (history_of log) spec)) (sym is) (each_push (FitsTxn (history_of log) spec) c.txns.items t fits.txns one);
+      txns = subst (AllByRecursion (FitsTxn (history_of log) spec)) (sym is) (each_push (FitsTxn (history_of log) spec) c.txns.items t fits.txns one);
       few_tasks = fits.few_tasks;
       numbers = fits.numbers;
-      tasks = subst (λ (txns : List Txn). Each (FitsTask log spec count txns) c.tasks.items) (sym is) (tasks_push log spec count c.txns.items t c.tasks.items fits.tasks);
+      tasks = subst (λ (txns : List Txn). AllByRecursion (FitsTask log spec count txns) c.tasks.items) (sym is) (tasks_push log spec count c.txns.items t c.tasks.items fits.tasks);
     }
 
 still_good : (w : World) → IsGood w → IsGood (with_client w w.client)

@@ -4,7 +4,7 @@ use Rattle.std.proofs.lemmas.Bool.{false_from_ne_true, or_from, or_left, or_righ
 use Rattle.std.proofs.lemmas.List.{map-append}
 use Rattle.std.proofs.lemmas.List.Folds.{list_any-append}
 use Rattle.std.proofs.lemmas.List.FromFn.{map-range_with_len_more}
-use Rattle.std.specs.List.{range_with_len}
+use Rattle.std.specs.List.{AllByRecursion, range_with_len}
 use Rattle.bcv_base.proofs.NumberedNames.{numbered-injective}
 use Rattle.bcv_base.specs.declared.id.Id16.{Id16}
 use Rattle.bcv_base.specs.History.{BlockDeleted, BlockPut, Item, ManifestDeleted, Published, Unreadable}
@@ -19,7 +19,7 @@ use Rattle.bcv_dbmap.specs.declared.plan.EditPlan.{EditPlan}
 use Rattle.bcv_dbmap.specs.declared.plan.EditPlan.TheVariants as edit
 use Rattle.bcv_dbmap.specs.Past.{has_version}
 use Rattle.bcv_publish.specs.Putting.{IsOwnBlock}
-use Rattle.bcv_world.specs.Stands.{Each, IsDrawn}
+use Rattle.bcv_world.specs.Stands.{IsDrawn}
 
 -- ---- one more name
 
@@ -78,27 +78,27 @@ pub next_undrawn : (n : ℕ) → n + 1 < 2 ^ 128 → IsDrawn n (numbered (n + 1)
 next_undrawn n small drawn = true≢false (sym drawn ∙ behind_them (n + 1) 1 n (omega arith) small)
 
 -- the next name is none of those that were drawn
-pub next_other : (n : ℕ) (ids : List Id16) → n + 1 < 2 ^ 128 → Each (IsDrawn n) ids → has_id (numbered (n + 1)) ids ≡ false
+pub next_other : (n : ℕ) (ids : List Id16) → n + 1 < 2 ^ 128 → AllByRecursion (IsDrawn n) ids → has_id (numbered (n + 1)) ids ≡ false
 next_other n [] small each = refl
 next_other n (i ∷ is) small each =
     or_from (id_eq i (numbered (n + 1))) (has_id (numbered (n + 1)) is)
     (false_from_ne_true (id_eq i (numbered (n + 1))) (λ same. next_undrawn n small (subst (IsDrawn n) (id_eq-is i (numbered (n + 1)) same) each.0)))
     (next_other n is small each.1)
 
-pub each_later : (m n : ℕ) (ids : List Id16) → m ≤ n → Each (IsDrawn m) ids → Each (IsDrawn n) ids
+pub each_later : (m n : ℕ) (ids : List Id16) → m ≤ n → AllByRecursion (IsDrawn m) ids → AllByRecursion (IsDrawn n) ids
 each_later m n [] le each = tt
 each_later m n (i ∷ is) le each = (drawn_later m n i le each.0, each_later m n is le each.1)
 
-pub each_append : (n : ℕ) (is js : List Id16) → Each (IsDrawn n) is → Each (IsDrawn n) js → Each (IsDrawn n) (is ++ js)
+pub each_append : (n : ℕ) (is js : List Id16) → AllByRecursion (IsDrawn n) is → AllByRecursion (IsDrawn n) js → AllByRecursion (IsDrawn n) (is ++ js)
 each_append n [] js p q = q
 each_append n (i ∷ is) js p q = (p.0, each_append n is js p.1 q)
 
 -- the ids of a history's versions were drawn, where those of its manifests were
-pub versions_drawn : (n : ℕ) (past : List Item) → ((i : Id16) → has_version past i ≡ true → IsDrawn n i) → Each (IsDrawn n) (map (λ (v : Version). v.id) (versions_of past))
+pub versions_drawn : (n : ℕ) (past : List Item) → ((i : Id16) → has_version past i ≡ true → IsDrawn n i) → AllByRecursion (IsDrawn n) (map (λ (v : Version). v.id) (versions_of past))
 versions_drawn n [] ids = tt
 versions_drawn n (BlockPut i bytes ∷ past) ids = versions_drawn n past ids
 versions_drawn n (Published m ∷ past) ids =
-    subst (Each (IsDrawn n)) (sym (map-append (λ (v : Version). v.id) (versions_of past) (version_of past m ∷ [])))
+    subst (AllByRecursion (IsDrawn n)) (sym (map-append (λ (v : Version). v.id) (versions_of past) (version_of past m ∷ [])))
     (each_append n (map (λ (v : Version). v.id) (versions_of past)) (m.id ∷ []) (versions_drawn n past (λ i has. ids i (or_right (id_eq m.id i) (has_version past i) has))) (ids m.id (or_left (id_eq m.id m.id) (has_version past m.id) (id_eq-self m.id)), tt))
 versions_drawn n (Unreadable ∷ past) ids = versions_drawn n past ids
 versions_drawn n (BlockDeleted i at ∷ past) ids = versions_drawn n past ids

@@ -2,6 +2,7 @@
 use Rattle.std.proofs.Common.{◌≡◌, true, false, List, [], ◌∷◌, ◌++◌, length, map, Option, Some, None, refl, sym, ap, ap₂, ◌∙◌, subst, arith, IfSome}
 use Rattle.std.proofs.lemmas.Bool.{eqb-true}
 use Rattle.std.specs.Option.{option_map, option_to_list}
+use Rattle.std.specs.List.{AllByRecursion}
 use Rattle.bcv_base.specs.declared.id.Id16.{Id16}
 use Rattle.bcv_base.specs.declared.seen.Latest.{Latest}
 use Rattle.bcv_base.specs.History.{Always, history_of}
@@ -19,7 +20,7 @@ use Rattle.bcv_world.specs.declared.world.World.{World}
 use Rattle.bcv_world.specs.Given.{IsSpec, is_world}
 use Rattle.bcv_world.specs.Moves.{IsNew}
 use Rattle.bcv_world.specs.Seen.{block_in, dbs_in, number_in, retention_in, seen, seen_known, seen_pending, seen_task, seen_txns, task_numbers}
-use Rattle.bcv_world.specs.Stands.{Differ, Each, Fits, FitsLatest, FitsTask, FitsTxn, IsGood, IsUnpublished, Mirrors}
+use Rattle.bcv_world.specs.Stands.{Differ, Fits, FitsLatest, FitsTask, FitsTxn, IsGood, IsUnpublished, Mirrors}
 use Rattle.bcv_world.proofs.TaskLists.{ids_of}
 
 -- what is new in a world
@@ -45,10 +46,10 @@ first_fits spec c world sizes new = record {
   pending = subst (λ (o : Option Id16). IfSome o (IsUnpublished [] 1)) (sym new.pending) tt;
   one = (let e : length (option_to_list c.pending ++ ids_of c.tasks.items) ≡ 0 = ap₂ (λ (o : Option Id16) (ts : List Task). length (option_to_list o ++ ids_of ts)) new.pending new.tasks in omega (arith, e));
   few_txns = (let e = ap length new.txns in omega (arith, e));
-  txns = subst (Each (FitsTxn [] spec)) (sym new.txns) tt;
+  txns = subst (AllByRecursion (FitsTxn [] spec)) (sym new.txns) tt;
   few_tasks = (let e = ap length new.tasks in omega (arith, e));
   numbers = subst (λ (ts : List Task). Differ (task_numbers ts)) (sym new.tasks) tt;
-  tasks = subst (Each (FitsTask [] spec 1 c.txns.items)) (sym new.tasks) tt;
+  tasks = subst (AllByRecursion (FitsTask [] spec 1 c.txns.items)) (sym new.tasks) tt;
 }
 
 pub first_good : (w : World) → IsFirst w → IsGood w

@@ -2,6 +2,7 @@
 use Rattle.std.proofs.Common.{◌≡◌, ℕ, ◌+◌, ◌≤◌, false, List, [], ◌∷◌, ◌++◌, length, length-append, Option, Some, None, slice_get, remove, insert, Vec, refl, sym, ap, subst, arith, inl}
 use Rattle.std.specs.declared.alloc.Global.{Global}
 use Rattle.std.specs.Option.{IfSome, option_to_list}
+use Rattle.std.specs.List.{AllByRecursion}
 use Rattle.bcv_base.specs.declared.id.Id16.{Id16}
 use Rattle.bcv_base.specs.declared.log.Entry.{Entry}
 use Rattle.bcv_base.specs.declared.outcome.Outcome.{Outcome}
@@ -22,7 +23,7 @@ use Rattle.bcv_world.specs.declared.world.World.{World}
 use Rattle.bcv_world.specs.Given.{stepped}
 use Rattle.bcv_world.specs.Moves.{Goes, state_of}
 use Rattle.bcv_world.specs.Seen.{seen_task, task_numbers}
-use Rattle.bcv_world.specs.Stands.{Each, Differ, Fits, FitsCopy, FitsJob, FitsTask, IsGood, IsUnpublished, job_ids, publication_ids}
+use Rattle.bcv_world.specs.Stands.{Differ, Fits, FitsCopy, FitsJob, FitsTask, IsGood, IsUnpublished, job_ids, publication_ids}
 use Rattle.bcv_world.proofs.DrawnNames.{drawn_later, blocks_by_more}
 use Rattle.bcv_world.proofs.Here.{here_at, is_here}
 use Rattle.bcv_world.proofs.TaskLists.{differ_back, differ_out, each_back, each_out, found, ids_back, ids_of, ids_out, length_back, length_out}
@@ -79,7 +80,7 @@ fits_out log spec count c place t v fits at is =
       txns = fits.txns;
       few_tasks = less;
       numbers = subst (λ (ts : List Task). Differ (task_numbers ts)) (sym is) (differ_out c.tasks.items place fits.numbers);
-      tasks = subst (Each (FitsTask log spec count c.txns.items)) (sym is) (each_out (FitsTask log spec count c.txns.items) c.tasks.items place fits.tasks);
+      tasks = subst (AllByRecursion (FitsTask log spec count c.txns.items)) (sym is) (each_out (FitsTask log spec count c.txns.items) c.tasks.items place fits.tasks);
     }
 
 -- ... and with another one in its place, that fits and publishes under as many ids
@@ -108,7 +109,7 @@ fits_back log spec count c place t u v fits at is same ids one =
       txns = fits.txns;
       few_tasks = less;
       numbers = subst (λ (ts : List Task). Differ (task_numbers ts)) (sym is) (differ_back c.tasks.items place t u fits.numbers at same);
-      tasks = subst (Each (FitsTask log spec count c.txns.items)) (sym is) (each_back (FitsTask log spec count c.txns.items) c.tasks.items place u fits.tasks one);
+      tasks = subst (AllByRecursion (FitsTask log spec count c.txns.items)) (sym is) (each_back (FitsTask log spec count c.txns.items) c.tasks.items place u fits.tasks one);
     }
 
 -- ---- more names
@@ -139,7 +140,7 @@ job_drawn log spec count more ts (job.Create id block retention) le f = (unpubli
 job_drawn log spec count more ts (job.Publish id s) le f = copy_drawn log spec count more id s le f
 job_drawn log spec count more ts (job.Read txn page) le f = f
 
-pub tasks_drawn : (log : List Entry) (spec : WorldSpec) (count more : ℕ) (txns : List Txn) (ts : List Task) → count ≤ more → Each (FitsTask log spec count txns) ts → Each (FitsTask log spec more txns) ts
+pub tasks_drawn : (log : List Entry) (spec : WorldSpec) (count more : ℕ) (txns : List Txn) (ts : List Task) → count ≤ more → AllByRecursion (FitsTask log spec count txns) ts → AllByRecursion (FitsTask log spec more txns) ts
 tasks_drawn log spec count more txns [] le each = tt
 tasks_drawn log spec count more txns (t ∷ ts) le each =
     let one : FitsTask log spec more txns t = record { from_one = each.0.from_one; most = each.0.most; fits = job_drawn log spec count more txns t.job le each.0.fits } in

@@ -5,6 +5,7 @@ use Rattle.std.proofs.lemmas.Grind.{flat_map-append}
 use Rattle.std.proofs.lemmas.List.{map-append}
 use Rattle.std.specs.declared.alloc.Global.{Global}
 use Rattle.std.specs.Option.{option_to_list}
+use Rattle.std.specs.List.{AllByRecursion}
 use Rattle.bcv_base.specs.declared.id.Id16.{Id16}
 use Rattle.bcv_base.specs.declared.log.Entry.{Entry}
 use Rattle.bcv_base.specs.declared.outcome.Outcome.TheVariants as outcome
@@ -23,7 +24,7 @@ use Rattle.bcv_world.specs.declared.world.World.{World}
 use Rattle.bcv_world.specs.Given.{done}
 use Rattle.bcv_world.specs.Moves.{DrawsNext, Goes, state_of}
 use Rattle.bcv_world.specs.Seen.{number_in, seen_task, task_numbers}
-use Rattle.bcv_world.specs.Stands.{Differ, Each, Fits, FitsJob, FitsTask, IsGood, job_ids, publication_ids}
+use Rattle.bcv_world.specs.Stands.{Differ, Fits, FitsJob, FitsTask, IsGood, job_ids, publication_ids}
 use Rattle.bcv_world.proofs.Here.{here_at, is_here}
 use Rattle.bcv_world.proofs.TaskLists.{ids_of, seen_number}
 
@@ -54,7 +55,7 @@ good_after w c names good same none least most fits =
 
 -- ---- one more task
 
-pub each_push : {A : Type 0} (P : A → Type 0) (xs : List A) (x : A) → Each P xs → P x → Each P (xs ++ x ∷ [])
+pub each_push : {A : Type 0} (P : A → Type 0) (xs : List A) (x : A) → AllByRecursion P xs → P x → AllByRecursion P (xs ++ x ∷ [])
 each_push P [] x each one = (one, tt)
 each_push P (y ∷ ys) x each one = (each.0, each_push P ys x each.1 one)
 
@@ -114,5 +115,5 @@ fits_started log spec count c n j v fits few free most is one job =
       txns = fits.txns;
       few_tasks = omega (arith, longer, few);
       numbers = subst (λ (ts : List Task). Differ (task_numbers ts)) (sym is) (subst Differ (sym (numbers_push c.tasks.items t)) (differ_push (task_numbers c.tasks.items) n fits.numbers free.free));
-      tasks = subst (Each (FitsTask log spec count c.txns.items)) (sym is) (each_push (FitsTask log spec count c.txns.items) c.tasks.items t fits.tasks task);
+      tasks = subst (AllByRecursion (FitsTask log spec count c.txns.items)) (sym is) (each_push (FitsTask log spec count c.txns.items) c.tasks.items t fits.tasks task);
     }

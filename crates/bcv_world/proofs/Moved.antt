@@ -1,6 +1,7 @@
 -- A world that stood for a history stands for it with one more event, where it goes as the machine does.
 use Rattle.std.proofs.Common.{◌≡◌, ℕ, ◌+◌, ◌<◌, ◌≤◌, ◌^◌, List, [], ◌∷◌, ◌++◌, refl, sym, ap, ◌∙◌, subst, arith, append-nil, length-append, inl, inr, Result, Ok, Err, IfOk, OnOk}
 use Rattle.std.specs.declared.alloc.AllocError.{AllocError}
+use Rattle.std.specs.List.{AllByRecursion}
 use Rattle.bcv_base.specs.declared.id.Id16.{Id16}
 use Rattle.bcv_base.specs.declared.outcome.Outcome.{Outcome}
 use Rattle.bcv_base.specs.Numbered.{numbered}
@@ -18,24 +19,24 @@ use Rattle.bcv_model.proofs.Runs.{IsOther, differ_then, drawn_then, run_then}
 use Rattle.bcv_world.specs.declared.world.World.{World}
 use Rattle.bcv_world.specs.Given.{Keeps}
 use Rattle.bcv_world.specs.Moves.{Applies, Counts, DrawsNext, Goes, state_of}
-use Rattle.bcv_world.specs.Stands.{Each, IsDrawn, IsGood, Mirrors, Shows}
+use Rattle.bcv_world.specs.Stands.{IsDrawn, IsGood, Mirrors, Shows}
 use Rattle.bcv_world.proofs.DrawnNames.{drawn_later, each_append, each_later, next_drawn, next_undrawn}
 
 -- ---- the ids that were drawn
 
 -- the next name is none of those that were drawn
-others : (n : ℕ) (ids : List Id16) → n + 1 < 2 ^ 128 → Each (IsDrawn n) ids → IsOther (numbered (n + 1)) ids
+others : (n : ℕ) (ids : List Id16) → n + 1 < 2 ^ 128 → AllByRecursion (IsDrawn n) ids → IsOther (numbered (n + 1)) ids
 others n [] small each = tt
 others n (i ∷ is) small each = (λ same. next_undrawn n small (subst (IsDrawn n) same each.0), others n is small each.1)
 
-drawn_ids : (before now : ℕ) (old more : List Id16) → before ≤ now → Each (IsDrawn before) old → DrawsNext before now more → Each (IsDrawn now) (old ++ more)
+drawn_ids : (before now : ℕ) (old more : List Id16) → before ≤ now → AllByRecursion (IsDrawn before) old → DrawsNext before now more → AllByRecursion (IsDrawn now) (old ++ more)
 drawn_ids before now old more le each draws =
-    each_append now old more (each_later before now old le each) (elim draws as (λ _. Each (IsDrawn now) more) [
-      | inl none ↦ subst (Each (IsDrawn now)) (sym none) tt
-      | inr next ↦ subst (Each (IsDrawn now)) (sym next.0) (drawn_later (before + 1) now (numbered (before + 1)) next.1 (next_drawn before), tt)
+    each_append now old more (each_later before now old le each) (elim draws as (λ _. AllByRecursion (IsDrawn now) more) [
+      | inl none ↦ subst (AllByRecursion (IsDrawn now)) (sym none) tt
+      | inr next ↦ subst (AllByRecursion (IsDrawn now)) (sym next.0) (drawn_later (before + 1) now (numbered (before + 1)) next.1 (next_drawn before), tt)
     ])
 
-differ_ids : (before now : ℕ) (old more : List Id16) → before + 1 < 2 ^ 128 → Each (IsDrawn before) old → AllDiffer old → DrawsNext before now more → AllDiffer (old ++ more)
+differ_ids : (before now : ℕ) (old more : List Id16) → before + 1 < 2 ^ 128 → AllByRecursion (IsDrawn before) old → AllDiffer old → DrawsNext before now more → AllDiffer (old ++ more)
 differ_ids before now old more small each differ draws =
     elim draws as (λ _. AllDiffer (old ++ more)) [
       | inl none ↦ subst (λ (l : List Id16). AllDiffer (old ++ l)) (sym none) (subst AllDiffer (sym (append-nil old)) differ)
@@ -55,7 +56,7 @@ stands_on old new h a b e s c small m good counts next le draws shows =
       applied = length-append h.events (e ∷ []) ∙ ap (λ x. x + 1) m.applied ∙ sym counts.applied;
       said = length-append h.saids (s ∷ []) ∙ ap (λ x. x + 1) m.said ∙ sym (length-append h.events (e ∷ []));
       chosen = length-append h.choices (c ∷ []) ∙ ap (λ x. x + 1) m.chosen ∙ sym (length-append h.events (e ∷ []));
-      ids = subst (Each (IsDrawn new.names.count)) (sym together) (drawn_ids old.names.count new.names.count (drawn h.events h.saids h.choices) (drawn_by e s c) le m.ids draws);
+      ids = subst (AllByRecursion (IsDrawn new.names.count)) (sym together) (drawn_ids old.names.count new.names.count (drawn h.events h.saids h.choices) (drawn_by e s c) le m.ids draws);
       shows = shows;
       versions = record { read = good.fits.sound.reads; are = sym (ap (λ (x : State). x.versions) shows.is) };
     }

@@ -1,22 +1,20 @@
 -- What a step's own put adds to a log and a draw to the names, and that both are as a sound log wants them.
-use Rattle.std.proofs.Common.{◌≡◌, ◌∙◌, ℕ, zero, suc, ◌+◌, ◌<◌, ◌≤◌, ◌^◌, Bool, true, false, true≢false, ◌||◌, cond, List, [], ◌∷◌, ◌++◌, length, length-append, append-nil, map, Option, Some, None, unwrap_or, slice_get, Vec, refl, sym, ap, subst, arith}
+use Rattle.std.proofs.Common.{◌≡◌, ◌∙◌, ℕ, ◌+◌, ◌<◌, ◌≤◌, ◌^◌, Bool, true, false, true≢false, ◌||◌, ◌⊎◌, inl, inr, cond, List, [], ◌∷◌, ◌++◌, length, length-append, append-nil, map, Option, Some, None, unwrap_or, slice_get, Vec, refl, sym, ap, subst, arith}
 use Rattle.std.proofs.lemmas.List.{append_cancel_left}
 use Rattle.std.proofs.lemmas.List.FromFn.{length-map-range_with_len}
-use Rattle.std.specs.List.{range_with_len}
 use Rattle.bcv_base.specs.declared.id.Id16.{Id16}
 use Rattle.bcv_base.specs.declared.log.Entry.{Entry}
 use Rattle.bcv_base.specs.declared.log.Entry.TheVariants as entry
 use Rattle.bcv_base.specs.declared.object.ObjName.TheVariants as object
 use Rattle.bcv_base.specs.History.{Item, BlockPut, Published, Unreadable, BlockDeleted, ManifestDeleted, Always, HasBlock, as_read, item_of, history_after, history_of, first_put}
-use Rattle.bcv_base.specs.HistoryLaws.{id_eq-is, first_put-stays}
-use Rattle.bcv_base.specs.Ids.{id_eq, has_id}
+use Rattle.bcv_base.specs.HistoryLaws.{first_put-stays}
+use Rattle.bcv_base.specs.Ids.{id_eq}
 use Rattle.bcv_base.specs.Image.{or_else}
-use Rattle.bcv_base.specs.Log.{object_after, object_of}
+use Rattle.bcv_base.specs.Log.{is_own, object_after, object_of}
 use Rattle.bcv_base.specs.ManifestGrammar.{manifest_of}
 use Rattle.bcv_base.specs.ManifestRules.{lists}
 use Rattle.bcv_base.specs.Numbered.{numbered, numbered_names}
 use Rattle.bcv_base.specs.Versions.{Reads, IsVersion}
-use Rattle.bcv_base.proofs.NumberedNames.{numbered-injective}
 use Rattle.bcv_dbmap.specs.Honest.{AreHonest, GrewHonestly}
 use Rattle.bcv_dbmap.specs.Past.{was_listed}
 use Rattle.bcv_dbmap.proofs.Bools.{not_passed}
@@ -44,22 +42,25 @@ use Rattle.bcv_world.specs.Given.{IsKeptOutcome}
 use Rattle.bcv_world.specs.Moves.{plain, state_of}
 use Rattle.bcv_world.specs.Seen.{kind_of, seen, seen_copy, seen_of, seen_task, seen_txns, seen_up}
 use Rattle.bcv_world.specs.Stands.{Fits, FitsTask, IsDrawn, IsGood}
-use Rattle.bcv_world.proofs.DrawnNames.{names_more}
+use Rattle.bcv_world.proofs.DrawnNames.{names_more, next_undrawn}
 use Rattle.bcv_world.proofs.Here.{here_at, here_of}
 use Rattle.bcv_world.proofs.TaskLists.{each_at}
 use Rattle.std.specs.declared.alloc.Global.{Global}
 
 -- ---- what was added
 
-pub honest_none : (mine : List Id16) (log : List Entry) → GrewHonestly mine log log
-honest_none mine log = λ added e.
-    let same : added ≡ [] = append_cancel_left log added [] (sym e ∙ sym (append-nil log)) in
-    subst (AreHonest mine (history_of log)) (sym same) tt
+-- nothing, or one own entry
+abbrev pub AddsOwn : List Entry → List Entry → Type 0
+AddsOwn log after = (after ≡ log) ⊎ ((e : Entry) × (is_own e ≡ true) × (after ≡ log ++ e ∷ []))
 
-pub honest_put : (mine : List Id16) (log : List Entry) (i : Id16) (bytes : List ℕ) (etag : ℕ) → GrewHonestly mine log (log ++ entry.Put true (object.Block i) bytes etag ∷ [])
-honest_put mine log i bytes etag = λ added e.
-    let same : added ≡ entry.Put true (object.Block i) bytes etag ∷ [] = append_cancel_left log added (entry.Put true (object.Block i) bytes etag ∷ []) (sym e) in
-    subst (AreHonest mine (history_of log)) (sym same) ((λ own. absurd (true≢false own)), tt)
+own_honest : (mine : List Id16) (past : List Item) (e : Entry) → is_own e ≡ true → AreHonest mine past (e ∷ [])
+own_honest mine past e own = ((λ foreign. absurd (true≢false (sym own ∙ foreign))), tt)
+
+pub grew_own : (mine : List Id16) (log after : List Entry) → AddsOwn log after → GrewHonestly mine log after
+grew_own mine log after (inl none) added is =
+    subst (AreHonest mine (history_of log)) (append_cancel_left log [] added (append-nil log ∙ sym none ∙ is)) tt
+grew_own mine log after (inr one) added is =
+    subst (AreHonest mine (history_of log)) (append_cancel_left log (one.0 ∷ []) added (sym one.2 ∙ is)) (own_honest mine (history_of log) one.0 one.1)
 
 -- ---- which name was drawn
 
@@ -81,21 +82,6 @@ name_is n k i e =
     (append_cancel_left (numbered_names n) (i ∷ []) (numbered (n + 1) ∷ []) (sym e ∙ ap numbered_names more ∙ names_more n))
 
 -- ---- the next name is new
-
-number_of : (a n : ℕ) (i : Id16) → has_id i (map numbered (range_with_len a n)) ≡ true → (k : ℕ) × (a ≤ k) × (k < a + n) × (numbered k ≡ i)
-number_of a zero i h = absurd cc
-number_of a (suc n) i h =
-    elim (id_eq (numbered a) i) as (λ (b : Bool). id_eq (numbered a) i ≡ b → (b || has_id i (map numbered (range_with_len (a + 1) n))) ≡ true → (k : ℕ) × (a ≤ k) × (k < a + suc n) × (numbered k ≡ i)) [
-      | true ↦ λ same more. (a, omega arith, omega arith, id_eq-is (numbered a) i same)
-      | false ↦ λ other more. let one = number_of (a + 1) n i more in (one.0, omega (arith, one.1), omega (arith, one.2), one.3)
-    ] refl h
-
-pub next_undrawn : (n : ℕ) → n + 1 < 2 ^ 128 → IsDrawn n (numbered (n + 1)) → ⊥
-next_undrawn n small drawn =
-    let one = number_of 1 n (numbered (n + 1)) drawn in
-    let low : one.0 < 2 ^ 128 = omega (arith, one.2, small) in
-    let same : one.0 ≡ n + 1 = numbered-injective one.0 (n + 1) low small one.3 in
-    omega (arith, one.2, same)
 
 pub next_unput : (past : List Item) (n : ℕ) → n + 1 < 2 ^ 128 → ((i : Id16) (bytes : List ℕ) → first_put past i ≡ Some bytes → IsDrawn n i) → first_put past (numbered (n + 1)) ≡ None
 next_unput past n small put =

@@ -1,6 +1,7 @@
 -- The put of a block of a new database's task.
-use Rattle.std.proofs.Common.{◌≡◌, ◌≢◌, ◌∙◌, ℕ, zero, suc, ◌+◌, ◌-◌, ◌<◌, ◌≤◌, ◌^◌, ◌==◌, Bool, true, false, true≢false, ◌||◌, cond, List, [], ◌∷◌, ◌++◌, length, length-append, append-nil, append_assoc, map, Option, Some, None, is_none, IfSome, MatchOption, remove, insert, Vec, refl, sym, ap, subst, arith}
+use Rattle.std.proofs.Common.{◌≡◌, ◌≢◌, ◌∙◌, ℕ, zero, suc, ◌+◌, ◌-◌, ◌<◌, ◌≤◌, ◌^◌, ◌==◌, Bool, true, false, true≢false, ◌||◌, cond, List, [], ◌∷◌, ◌++◌, length, length-append, append-nil, append_assoc, map, Option, Some, None, is_none, IfSome, MatchOption, remove, insert, Vec, refl, sym, ap, subst, arith, inr}
 use Rattle.std.specs.declared.alloc.Global.{Global}
+use Rattle.std.specs.List.{AllByRecursion}
 use Rattle.bcv_base.specs.declared.id.Id16.{Id16}
 use Rattle.bcv_base.specs.declared.log.Entry.{Entry}
 use Rattle.bcv_base.specs.declared.log.Entry.TheVariants as entry
@@ -50,11 +51,11 @@ use Rattle.bcv_world.specs.declared.world.World.{World}
 use Rattle.bcv_world.specs.Given.{IsKeptOutcome}
 use Rattle.bcv_world.specs.Moves.{plain, reply_of, state_of}
 use Rattle.bcv_world.specs.Seen.{kind_of, seen, seen_copy, seen_of, seen_task, seen_txn, seen_txns}
-use Rattle.bcv_world.specs.Stands.{Each, Fits, FitsCopy, FitsJob, FitsLatest, FitsTask, FitsTxn, HasPageSize, IsDrawn, IsLastRead, IsUnpublished}
+use Rattle.bcv_world.specs.Stands.{Fits, FitsCopy, FitsJob, FitsLatest, FitsTask, FitsTxn, HasPageSize, IsDrawn, IsLastRead, IsUnpublished}
 use Rattle.bcv_world.proofs.DrawnNames.{blocks_by_more, drawn_once_more, next_drawn}
 use Rattle.bcv_world.proofs.Going.{fits_back, fits_drawn, fits_out}
 use Rattle.bcv_world.proofs.Here.{here_at}
-use Rattle.bcv_world.proofs.OwnGrowth.{IsStepped, Worked, behind, fits_at, good_behind, honest_put, name_is, names_one, never_listed, never_there, next_unput, none_some, shown_behind}
+use Rattle.bcv_world.proofs.OwnGrowth.{IsStepped, Worked, behind, fits_at, good_behind, grew_own, name_is, names_one, never_listed, never_there, next_unput, none_some, shown_behind}
 use Rattle.bcv_world.proofs.StepGet.{Ends}
 use Rattle.bcv_world.proofs.TaskLists.{each_at, put_back, taken_out}
 
@@ -106,7 +107,7 @@ module _ (log : List Entry) (i : Id16) (bytes : List ℕ) (etag : ℕ) (spec : W
   put_pending None fits = tt
   put_pending (Some j) fits = carried (λ (p : List Item). IsUnpublished p count j) fits
 
-  put_txns : (ts : List Txn) → Each (FitsTxn before spec) ts → Each (FitsTxn (history_of grown) spec) ts
+  put_txns : (ts : List Txn) → AllByRecursion (FitsTxn before spec) ts → AllByRecursion (FitsTxn (history_of grown) spec) ts
   put_txns [] each = tt
   put_txns (t ∷ ts) each =
       let one : FitsTxn (history_of grown) spec t = record {
@@ -139,7 +140,7 @@ module _ (log : List Entry) (i : Id16) (bytes : List ℕ) (etag : ℕ) (spec : W
   put_job ts (job.Publish id s) fits = put_copy id s fits
   put_job ts (job.Read txn page) fits = fits
 
-  put_tasks : (txns : List Txn) (ts : List Task) → Each (FitsTask log spec count txns) ts → Each (FitsTask grown spec count txns) ts
+  put_tasks : (txns : List Txn) (ts : List Task) → AllByRecursion (FitsTask log spec count txns) ts → AllByRecursion (FitsTask grown spec count txns) ts
   put_tasks txns [] each = tt
   put_tasks txns (t ∷ ts) each =
       let one : FitsTask grown spec count txns t = record { from_one = each.0.from_one; most = each.0.most; fits = put_job txns t.job each.0.fits } in (one, put_tasks txns ts each.1)
@@ -165,7 +166,7 @@ module _ (log : List Entry) (i : Id16) (bytes : List ℕ) (etag : ℕ) (spec : W
   }
 
 -- the transactions are shown as before
-pub txns_stay : (past : List Item) (i : Id16) (bytes : List ℕ) (spec : WorldSpec) (n : ℕ) (ts : List Txn) → Each (FitsTxn past spec) ts → seen_txns (BlockPut i bytes ∷ past) n ts ≡ seen_txns past n ts
+pub txns_stay : (past : List Item) (i : Id16) (bytes : List ℕ) (spec : WorldSpec) (n : ℕ) (ts : List Txn) → AllByRecursion (FitsTxn past spec) ts → seen_txns (BlockPut i bytes ∷ past) n ts ≡ seen_txns past n ts
 txns_stay past i bytes spec n [] each = refl
 txns_stay past i bytes spec n (t ∷ ts) each =
     ap (λ (more : List ℕ). record { number = n; db = t.db; base = t.base; page_size = t.page_size; image = pages_of t.pages t.page_size more; commits = []; held = [] } ∷ seen_txns (BlockPut i bytes ∷ past) (n + 1) ts)
@@ -229,7 +230,7 @@ put_of log after spec count now c seen s o new l small fits owns steps some =
     in
     let a = asked_of log after count now l.manifest.block s o work.More new steps.ids steps.drawn told in
     let grown : after ≡ with_put log (numbered (count + 1)) a.bytes a.ends.0 = a.ends.3.added in
-    let honest : GrewHonestly mine log after = subst (GrewHonestly mine log) (sym grown) (honest_put mine log (numbered (count + 1)) a.bytes a.ends.0) in
+    let honest : GrewHonestly mine log after = grew_own mine log after (inr (entry.Put true (object.Block (numbered (count + 1))) a.bytes a.ends.0, refl, grown)) in
     let more : OwnsBlocks mine log s = blocks_by_more (numbered_names count) mine (λ i d. drawn_once_more count i d) (history_of log) s.pages s.edit s.block owns in
     let whole : Grown (Unit {0}) mine log after new =
     subst (λ (x : Option Latest). WorksSound (Unit {0}) (Unit {0}) (o ∷ []) mine x log after seen s work.More new) some

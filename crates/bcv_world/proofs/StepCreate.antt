@@ -37,7 +37,8 @@ use Rattle.bcv_world.specs.Given.{IsKeptOutcome, stepped}
 use Rattle.bcv_world.specs.Moves.{Goes, plain, published}
 use Rattle.bcv_world.specs.Seen.{block_in, retention_in, number_in, dbs_in, seen, seen_job, seen_known, seen_pending, seen_task, seen_txns}
 use Rattle.bcv_world.specs.Stands.{FitsTask, IsDrawn, IsGood}
-use Rattle.bcv_world.proofs.Appended.{AddsOwn, IsNext, adds_alone, adds_failed, adds_put, alone, appended_history, ended_world, first_drawn, good_ended, good_put, good_waiting, grew_own, put_client, same_log, shown_same, txns_published, waiting_client, waiting_same}
+use Rattle.bcv_world.proofs.OwnGrowth.{AddsOwn, grew_own}
+use Rattle.bcv_world.proofs.Appended.{IsNext, adds_alone, adds_failed, adds_put, alone, appended_history, ended_world, first_drawn, good_ended, good_put, good_waiting, put_client, same_log, shown_same, txns_published, waiting_client, waiting_same}
 use Rattle.bcv_world.proofs.Going.{goes_step}
 use Rattle.bcv_world.proofs.Here.{here_of, here_at}
 use Rattle.bcv_world.proofs.TaskLists.{each_at, taken_out}

@@ -1,5 +1,5 @@
 -- The manifest's get of a publishing task.
-use Rattle.std.proofs.Common.{◌≡◌, ◌≢◌, ◌∙◌, ℕ, ◌+◌, ◌-◌, ◌==◌, Bool, true, false, not, ◌||◌, cond, List, [], ◌∷◌, ◌++◌, length, append-nil, map, Option, Some, None, is_some, IfSome, MatchOption, nat_lt, remove, insert, Vec, refl, sym, ap, subst, arith}
+use Rattle.std.proofs.Common.{◌≡◌, ◌≢◌, ◌∙◌, ℕ, ◌+◌, ◌-◌, ◌==◌, Bool, true, false, not, ◌||◌, cond, List, [], ◌∷◌, ◌++◌, length, append-nil, map, Option, Some, None, is_some, IfSome, MatchOption, nat_lt, remove, insert, Vec, refl, sym, ap, subst, arith, inl}
 use Rattle.std.proofs.lemmas.Bool.{eq-eqb, le-ltb}
 use Rattle.std.proofs.lemmas.Option.{same_Some}
 use Rattle.std.specs.declared.alloc.Global.{Global}
@@ -52,7 +52,7 @@ use Rattle.bcv_world.specs.Stands.{Fits, FitsCopy, FitsLatest, IsGood, IsLatest}
 use Rattle.bcv_world.proofs.Checks.{faults_seen, passes_seen}
 use Rattle.bcv_world.proofs.Going.{fits_back, fits_out}
 use Rattle.bcv_world.proofs.Here.{here_at, here_of, last_at}
-use Rattle.bcv_world.proofs.OwnGrowth.{IsStepped, Worked, behind, fits_at, good_behind, honest_none, names_same, none_some, shown_behind}
+use Rattle.bcv_world.proofs.OwnGrowth.{IsStepped, Worked, behind, fits_at, good_behind, grew_own, names_same, none_some, shown_behind}
 use Rattle.bcv_world.proofs.TaskLists.{put_back, taken_out}
 
 -- ---- what the get did
@@ -76,7 +76,7 @@ get_of log after count now seen s o r new sound owns steps leaves none =
     in
     let same : after ≡ log = told.grown ∙ ap (λ (x : List Entry). log ++ x) (told.by_others.none tt) ∙ append-nil log in
     let ids : steps.ids ≡ [] = subst (λ (x : Option Latest). DrawsFor x s r new steps.ids) none steps.names in
-    let honest : GrewHonestly (numbered_names count) log after = subst (GrewHonestly (numbered_names count) log) (sym same) (honest_none (numbered_names count) log) in
+    let honest : GrewHonestly (numbered_names count) log after = grew_own (numbered_names count) log after (inl same) in
     let fresh : AreFresh (numbered_names count) log steps.ids = subst (AreFresh (numbered_names count) log) (sym ids) (λ i h. absurd cc) in
     let whole : Grown (Unit {0}) (numbered_names count) log after new × GetsSound (Unit {0}) (Unit {0}) (o ∷ []) (numbered_names count) log after seen s.edit s.publish r new.publish =
     subst (λ (x : Option Latest). WorksSound (Unit {0}) (Unit {0}) (o ∷ []) (numbered_names count) x log after seen s r new) none (steps.sound tt (numbered_names count) sound honest owns fresh)

@@ -7,6 +7,7 @@ use Rattle.std.specs.Cmp.{first_so, second_so}
 use Rattle.std.specs.declared.alloc.Global.{Global}
 use Rattle.std.specs.Option.{option_map}
 use Rattle.std.specs.Str.{bytes_eq}
+use Rattle.std.specs.List.{AllByRecursion}
 use Rattle.bcv_base.specs.declared.id.Id16.{Id16}
 use Rattle.bcv_base.specs.declared.log.Entry.{Entry}
 use Rattle.bcv_base.specs.declared.manifest.DbEntry.{DbEntry}
@@ -59,8 +60,9 @@ use Rattle.bcv_world.specs.declared.world.World.{World}
 use Rattle.bcv_world.specs.Given.{IsKeptOutcome, stepped}
 use Rattle.bcv_world.specs.Moves.{Goes, plain, published, state_of}
 use Rattle.bcv_world.specs.Seen.{block_in, retention_in, number_in, kind_of, read_number, seen, seen_copy, seen_known, seen_pending, seen_task, seen_txns}
-use Rattle.bcv_world.specs.Stands.{Each, FitsCopy, FitsLatest, FitsTask, HasPageSize, IsDrawn, IsGood, IsLastRead, IsLatest}
-use Rattle.bcv_world.proofs.Appended.{AddsOwn, IsNext, adds_alone, adds_failed, adds_put, alone, appended_history, ended_world, first_drawn, good_put, good_waiting, grew_own, put_client, same_log, shown_same, txns_published, waiting_client, waiting_same}
+use Rattle.bcv_world.specs.Stands.{FitsCopy, FitsLatest, FitsTask, HasPageSize, IsDrawn, IsGood, IsLastRead, IsLatest}
+use Rattle.bcv_world.proofs.OwnGrowth.{AddsOwn, grew_own}
+use Rattle.bcv_world.proofs.Appended.{IsNext, adds_alone, adds_failed, adds_put, alone, appended_history, ended_world, first_drawn, good_put, good_waiting, put_client, same_log, shown_same, txns_published, waiting_client, waiting_same}
 use Rattle.bcv_world.proofs.Going.{goes_step}
 use Rattle.bcv_world.proofs.Here.{here_of, here_at, last_at}
 use Rattle.bcv_world.proofs.TaskLists.{each_at, taken_out}
@@ -198,16 +200,16 @@ never o log after read n result kept has (inr e) =
 
 -- ---- the manifest that was put
 
-each_with : {A : Type 0} (P : A → Type 0) (key : A → List ℕ) (a : A) (xs : List A) → P a → Each P xs → Each P (with_keyed key a xs)
+each_with : {A : Type 0} (P : A → Type 0) (key : A → List ℕ) (a : A) (xs : List A) → P a → AllByRecursion P xs → AllByRecursion P (with_keyed key a xs)
 each_with P key a [] one each = (one, tt)
 each_with P key a (x ∷ xs) one each =
-    by_place key (Each P) a x xs (λ e. (one, each.1)) (λ e f. (one, each)) (λ e f. (each.0, each_with P key a xs one each.1))
+    by_place key (AllByRecursion P) a x xs (λ e. (one, each.1)) (λ e f. (one, each)) (λ e f. (each.0, each_with P key a xs one each.1))
 
-each_without : {A : Type 0} (P : A → Type 0) (key : A → List ℕ) (k : List ℕ) (xs : List A) → Each P xs → Each P (without_keyed key k xs)
+each_without : {A : Type 0} (P : A → Type 0) (key : A → List ℕ) (k : List ℕ) (xs : List A) → AllByRecursion P xs → AllByRecursion P (without_keyed key k xs)
 each_without P key k [] each = tt
-each_without P key k (x ∷ xs) each = by_removal key (Each P) k x xs (λ e. each_without P key k xs each.1) (λ e. (each.0, each_without P key k xs each.1))
+each_without P key k (x ∷ xs) each = by_removal key (AllByRecursion P) k x xs (λ e. each_without P key k xs each.1) (λ e. (each.0, each_without P key k xs each.1))
 
-each_found : {A : Type 0} (P : A → Type 0) (key : A → List ℕ) (k : List ℕ) (xs : List A) (x : A) → Each P xs → keyed key k xs ≡ Some x → P x
+each_found : {A : Type 0} (P : A → Type 0) (key : A → List ℕ) (k : List ℕ) (xs : List A) (x : A) → AllByRecursion P xs → keyed key k xs ≡ Some x → P x
 each_found P key k [] x each found = absurd (cc)
 each_found P key k (y ∷ ys) x each found =
     by_test (bytes_eq (key y) k)
@@ -215,13 +217,13 @@ each_found P key k (y ∷ ys) x each found =
     (λ t. each_found P key k ys x each.1 (sym (keyed_there key k y ys t) ∙ found))
 
 -- the databases of an edit have the world's page size
-dbs_sized : (spec : WorldSpec) (e : EditPlan) (pages : List Page) (id : Id16) (ds : List DbEntry) → IsEdit e pages → HasPageSize spec e → Each (λ (d : DbEntry). d.page_size ≡ spec.page) ds
-    → Each (λ (d : DbEntry). d.page_size ≡ spec.page) (dbs_after e id ds)
+dbs_sized : (spec : WorldSpec) (e : EditPlan) (pages : List Page) (id : Id16) (ds : List DbEntry) → IsEdit e pages → HasPageSize spec e → AllByRecursion (λ (d : DbEntry). d.page_size ≡ spec.page) ds
+    → AllByRecursion (λ (d : DbEntry). d.page_size ≡ spec.page) (dbs_after e id ds)
 dbs_sized spec (edit.New e) pages id ds is sized each = each_with (λ (d : DbEntry). d.page_size ≡ spec.page) db_name (record e { tag = id }) ds sized each
 dbs_sized spec (edit.Upload from e) pages id ds is sized each = absurd is
 dbs_sized spec (edit.Copy from to) pages id ds is sized each = by_source (keyed db_name from ds) refl
   where
-    by_source : (o : Option DbEntry) → keyed db_name from ds ≡ o → Each (λ (d : DbEntry). d.page_size ≡ spec.page) (with_made db_name (option_map (λ (d : DbEntry). record d { name = to; tag = id }) o) ds)
+    by_source : (o : Option DbEntry) → keyed db_name from ds ≡ o → AllByRecursion (λ (d : DbEntry). d.page_size ≡ spec.page) (with_made db_name (option_map (λ (d : DbEntry). record d { name = to; tag = id }) o) ds)
     by_source None found = each
     by_source (Some d) found =
         each_with (λ (x : DbEntry). x.page_size ≡ spec.page) db_name (record d { name = to; tag = id }) ds (each_found (λ (x : DbEntry). x.page_size ≡ spec.page) db_name from ds d each found) each
@@ -235,7 +237,7 @@ made_next w place number id s read p k =
       block = sym (ap (λ (n : Manifest). n.block) k.manifest) ∙ k.latest.block;
       pages =
           dbs_sized w.spec s.edit s.pages s.publish.id read.manifest.dbs p.task.edit k.fits.page_size
-          (subst (λ (n : Manifest). Each (λ (d : DbEntry). d.page_size ≡ w.spec.page) n.dbs) k.manifest k.latest.pages);
+          (subst (λ (n : Manifest). AllByRecursion (λ (d : DbEntry). d.page_size ≡ w.spec.page) n.dbs) k.manifest k.latest.pages);
       wrote = ap (λ (i : Id16). is_some (keyed writer_id i.0 (with_keyed writer_id line read.manifest.writers))) (sym k.fits.writer) ∙ ap is_some (keyed_at writer_id line read.manifest.writers);
     }
 

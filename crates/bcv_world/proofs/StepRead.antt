@@ -4,6 +4,7 @@ use Rattle.std.proofs.lemmas.Bool.{eq-eqb, ne_eqb}
 use Rattle.std.proofs.lemmas.Option.{get_or_from_slice_get}
 use Rattle.std.specs.Option.{option_map}
 use Rattle.std.specs.declared.alloc.Global.{Global}
+use Rattle.std.specs.List.{AllByRecursion}
 use Rattle.bcv_base.specs.declared.id.Id16.{Id16}
 use Rattle.bcv_base.specs.declared.log.Entry.{Entry}
 use Rattle.bcv_base.specs.declared.object.ObjName.TheVariants as object
@@ -31,7 +32,7 @@ use Rattle.bcv_world.specs.declared.world.World.{World}
 use Rattle.bcv_world.specs.Given.{IsKeptOutcome, stepped}
 use Rattle.bcv_world.specs.Moves.{BlockComes, Goes, IsRead, Runs, plain, state_of}
 use Rattle.bcv_world.specs.Seen.{numbered_txn, seen, seen_task, seen_txn, seen_txns, seen_up}
-use Rattle.bcv_world.specs.Stands.{Each, Fits, FitsRead, FitsTask, FitsTxn, IsGood}
+use Rattle.bcv_world.specs.Stands.{Fits, FitsRead, FitsTask, FitsTxn, IsGood}
 use Rattle.bcv_world.proofs.BlockObjects.{HasBytes, block_object}
 use Rattle.bcv_world.proofs.Going.{goes_step, fits_out}
 use Rattle.bcv_world.proofs.Here.{here_at}
@@ -40,7 +41,7 @@ use Rattle.bcv_world.proofs.TaskLists.{each_at, taken_out}
 
 -- ---- transactions
 
-each_get : {A : Type 0} (P : A → Type 0) (xs : List A) (n : ℕ) (x : A) → Each P xs → slice_get xs n ≡ Some x → P x
+each_get : {A : Type 0} (P : A → Type 0) (xs : List A) (n : ℕ) (x : A) → AllByRecursion P xs → slice_get xs n ≡ Some x → P x
 each_get P [] n x each at = absurd (cc (at))
 each_get {A = A} P (y ∷ ys) zero x each at = subst P (some_is y x at) each.0
   where
@@ -49,7 +50,7 @@ each_get {A = A} P (y ∷ ys) zero x each at = subst P (some_is y x at) each.0
 each_get P (y ∷ ys) (suc n) x each at = each_get P ys n x each.1 at
 
 -- what holds of each transaction holds of the one of a number
-each_numbered : (P : Txn → Type 0) (ts : List Txn) (n : ℕ) (t : Txn) → Each P ts → numbered_txn n ts ≡ Some t → P t
+each_numbered : (P : Txn → Type 0) (ts : List Txn) (n : ℕ) (t : Txn) → AllByRecursion P ts → numbered_txn n ts ≡ Some t → P t
 each_numbered P ts zero t each at = absurd (cc (at))
 each_numbered P ts (suc n) t each at =
     each_get P ts (suc n - 1) t each (sym (ap (λ (b : Bool). cond b None (slice_get ts (suc n - 1))) (ne_eqb (suc n) 0 (λ e. absurd (omega arith)))) ∙ at)

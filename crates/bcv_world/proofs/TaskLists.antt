@@ -1,14 +1,14 @@
 -- The tasks of a client as a list: the one at a place, without it, and with another one in its place.
 use Rattle.std.proofs.Common.{◌≡◌, ◌==◌, ℕ, zero, suc, ◌+◌, Bool, true, false, not, cond, ◌||◌, List, [], ◌∷◌, ◌++◌, length, map, Some, None, slice_get, remove, insert, length-append, refl, sym, ap, ap₂, ◌∙◌, subst, arith}
 use Rattle.std.proofs.lemmas.Bool.{eqb-false, eq-eqb, ne_eqb, or_parts}
-use Rattle.std.specs.List.{flat_map}
+use Rattle.std.specs.List.{AllByRecursion, flat_map}
 use Rattle.bcv_base.specs.declared.id.Id16.{Id16}
 use Rattle.bcv_model.specs.MachineState as m
 use Rattle.bcv_world.specs.declared.task.Job.{Job}
 use Rattle.bcv_world.specs.declared.task.Job.TheVariants as job
 use Rattle.bcv_world.specs.declared.task.Task.{Task}
 use Rattle.bcv_world.specs.Seen.{seen_job, seen_task, task_numbers}
-use Rattle.bcv_world.specs.Stands.{Each, Differ, job_ids}
+use Rattle.bcv_world.specs.Stands.{Differ, job_ids}
 
 -- the ids that tasks publish under
 abbrev pub ids_of : List Task → List Id16
@@ -102,18 +102,18 @@ put_back (x ∷ ts) (suc place) number t u differ at same kept =
     ∙ ap (λ (b : Bool). cond b (seen_task u) (seen_task x) ∷ m.with_task (seen_task u) (map seen_task ts))
     (sym (test_not x (seen_task u).number (λ e. head_not x ts place number t differ.0 at same (e ∙ seen_number u ∙ kept))))
 
-pub each_at : (P : Task → Type 0) (ts : List Task) (place : ℕ) (t : Task) → Each P ts → slice_get ts place ≡ Some t → P t
+pub each_at : (P : Task → Type 0) (ts : List Task) (place : ℕ) (t : Task) → AllByRecursion P ts → slice_get ts place ≡ Some t → P t
 each_at P [] place t each at = absurd (none_some t at)
 each_at P (x ∷ ts) zero t each at = subst P (some_same x t at) each.0
 each_at P (x ∷ ts) (suc place) t each at = each_at P ts place t each.1 at
 
-pub each_out : (P : Task → Type 0) (ts : List Task) (place : ℕ) → Each P ts → Each P (remove ts place)
+pub each_out : (P : Task → Type 0) (ts : List Task) (place : ℕ) → AllByRecursion P ts → AllByRecursion P (remove ts place)
 each_out P [] zero each = tt
 each_out P [] (suc place) each = tt
 each_out P (x ∷ ts) zero each = each.1
 each_out P (x ∷ ts) (suc place) each = (each.0, each_out P ts place each.1)
 
-pub each_back : (P : Task → Type 0) (ts : List Task) (place : ℕ) (u : Task) → Each P ts → P u → Each P (insert (remove ts place) place u)
+pub each_back : (P : Task → Type 0) (ts : List Task) (place : ℕ) (u : Task) → AllByRecursion P ts → P u → AllByRecursion P (insert (remove ts place) place u)
 each_back P [] zero u each one = (one, tt)
 each_back P [] (suc place) u each one = (one, tt)
 each_back P (x ∷ ts) zero u each one = (one, each.1)

@@ -1,6 +1,6 @@
 -- When a world stands for a state of the machine, and for the history that leads there.
 use Rattle.std.specs.Prelude.{◌≡◌, ℕ, ◌+◌, ◌≤◌, true, false, List, [], ◌∷◌, ◌++◌, length, Option, Some, None, IfSome, is_some}
-use Rattle.std.specs.List.{flat_map}
+use Rattle.std.specs.List.{AllByRecursion, flat_map}
 use Rattle.std.specs.Option.{option_to_list}
 use Rattle.bcv_base.specs.declared.id.Id16.{Id16}
 use Rattle.bcv_base.specs.declared.log.Entry.{Entry}
@@ -31,10 +31,6 @@ use Rattle.bcv_world.specs.declared.txn.Txn.{Txn}
 use Rattle.bcv_world.specs.declared.world.World.{World}
 use Rattle.bcv_world.specs.Given.{is_world, IsSpec}
 use Rattle.bcv_world.specs.Seen.{number_in, numbered_txn, seen, task_numbers}
-
-abbrev pub Each : {A : Type 0} → (A → Type 0) → List A → Type 0
-Each P [] = Unit {0}
-Each P (x ∷ xs) = P x × Each P xs
 
 -- ---- ids
 
@@ -118,7 +114,7 @@ publication_ids c = option_to_list c.pending ++ flat_map (λ (t : Task). job_ids
 pub record IsLatest (log : List Entry) (spec : WorldSpec) (l : Latest) : Type 0 where
   pub last : last_of (history_of log) ≡ Some l.manifest
   pub block : l.manifest.block ≡ spec.block
-  pub pages : Each (λ (d : DbEntry). d.page_size ≡ spec.page) l.manifest.dbs
+  pub pages : AllByRecursion (λ (d : DbEntry). d.page_size ≡ spec.page) l.manifest.dbs
   pub wrote : is_some (keyed writer_id (numbered 1).0 l.manifest.writers) ≡ true
 
 -- the client keeps the last manifest; before the create there is none
@@ -142,10 +138,10 @@ pub record Fits (log : List Entry) (spec : WorldSpec) (count : ℕ) (c : Client)
   -- one publication at a time
   pub one : length (publication_ids c) ≤ 1
   pub few_txns : length c.txns.items ≤ 64
-  pub txns : Each (FitsTxn (history_of log) spec) c.txns.items
+  pub txns : AllByRecursion (FitsTxn (history_of log) spec) c.txns.items
   pub few_tasks : length c.tasks.items ≤ 16
   pub numbers : Differ (task_numbers c.tasks.items)
-  pub tasks : Each (FitsTask log spec count c.txns.items) c.tasks.items
+  pub tasks : AllByRecursion (FitsTask log spec count c.txns.items) c.tasks.items
 
 -- the state is what the client shows over the log, with some bytes noted
 pub record Shows (log : List Entry) (spec : WorldSpec) (c : Client) (a : State) : Type 0 where
@@ -169,7 +165,7 @@ pub record Mirrors (w : World) (h : History) (a : State) : Type 0 where
   pub applied : length h.events ≡ w.applied
   pub said : length h.saids ≡ length h.events
   pub chosen : length h.choices ≡ length h.events
-  pub ids : Each (IsDrawn w.names.count) (drawn h.events h.saids h.choices)
+  pub ids : AllByRecursion (IsDrawn w.names.count) (drawn h.events h.saids h.choices)
   pub shows : Shows (log_of w.store) w.spec w.client a
   -- the machine's versions are exactly those of the store's log
   pub versions : HasVersions (log_of w.store) a.versions
