@@ -15,6 +15,7 @@ use Rattle.bcv_dbmap.specs.Applied.{applied, first_manifest, edit_of, swept_ids,
 use Rattle.bcv_dbmap.specs.Checked.{checked}
 use Rattle.bcv_dbmap.specs.Filled.{Fills}
 use Rattle.bcv_dbmap.specs.Growth.{IsNewBlock, IsLawful, AreLawful, IsUntouched}
+use Rattle.bcv_dbmap.specs.OwnBlock.{IsOwnBlock}
 use Rattle.bcv_dbmap.specs.Outlived.{IsDeletedIn, IsOutlived, IsGone}
 use Rattle.bcv_dbmap.specs.Past.{IsAmong, has_version, was_deleted}
 use Rattle.bcv_dbmap.specs.Sound.{Sound, IsSoundLog}
@@ -72,6 +73,12 @@ abbrev pub OthersLeaveMine : Type 0
 OthersLeaveMine =
     (mine : List Id16) (log others : List Entry) → IsSoundLog log → AreLawful mine (history_of log) others
     → IsUntouched mine (history_of log) (history_of (log ++ others))
+
+-- a block of mine that was put for a publication to come stays one
+abbrev pub OwnBlockStays : Type 0
+OwnBlockStays =
+    (mine : List Id16) (log others : List Entry) (size : ℕ) (i : Id16) → IsSoundLog log → AreLawful mine (history_of log) others
+    → IsOwnBlock mine (history_of log) size i → IsOwnBlock mine (history_of (log ++ others)) size i
 
 -- a publication of one's own that passes, over the last manifest, with a fresh id and new blocks, is lawful to every other
 -- client that shares no name

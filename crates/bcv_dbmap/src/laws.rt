@@ -16,6 +16,7 @@ ghost use Rattle.bcv_dbmap.specs.Laws.{
   OthersKeepSound,
   VersionsStay,
   OthersLeaveMine,
+  OwnBlockStays,
   PublishedIsLawful,
   DeletedIsOutlived,
   GoneIsOutlived,
@@ -74,6 +75,12 @@ pub fn versions_stay()
 /// publication of a writer. The publish engine finds its blocks and its fate by it, over a put whose answer was lost.
 pub fn others_leave_mine()
     ensures { OthersLeaveMine }
+{}
+
+/// A block that was put for a publication to come stays one while others append lawful entries. Requests that put blocks
+/// and publish later rest on it.
+pub fn own_block_stays()
+    ensures { OwnBlockStays }
 {}
 
 /// A publication of one's own that passes, over the last manifest, with a fresh id and new blocks, is lawful to every
