@@ -35,7 +35,7 @@ pub fn first_creates()
     ensures { FirstCreates }
 {}
 
-/// A first manifest meets the rules and the limits of a manifest. The publish engine may write it by this.
+/// A first manifest meets the rules and the limits of a manifest, and is short. The publish engine may write it by this.
 pub fn first_meets_rules()
     ensures { FirstMeetsRules }
 {}
@@ -46,7 +46,7 @@ pub fn applied_meets_rules()
 {}
 
 /// A plan that passes with zeros in place of ids passes with any ids in their place, and what is applied then keeps within
-/// the limits. The publish engine checks a plan by this before it puts the blocks.
+/// the limits and is short. The publish engine checks a plan by this before it puts the blocks.
 pub fn applied_meets_limits()
     ensures { AppliedMeetsLimits }
 {}
