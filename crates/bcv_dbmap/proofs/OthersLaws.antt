@@ -11,12 +11,12 @@ use Rattle.bcv_base.specs.Image.{or_else}
 use Rattle.bcv_base.specs.ManifestRules.{lists, MeetsRules}
 use Rattle.bcv_dbmap.specs.Deletions.{IsDeletable}
 use Rattle.bcv_dbmap.specs.Growth.{Edits, Creates, Publishes, PutsNew, IsPublication, IsLawful, AreLawful, IsUntouched}
-use Rattle.bcv_dbmap.specs.Laws.{OthersKeepSound, OthersLeaveMine, OwnBlockStays}
-use Rattle.bcv_dbmap.specs.Past.{was_listed, was_dead, has_version, is_numbered, writer_of}
+use Rattle.bcv_dbmap.specs.Laws.{OthersKeepSound, OthersLeaveMine}
+use Rattle.bcv_dbmap.specs.Past.{was_listed, has_version, is_numbered, writer_of}
 use Rattle.bcv_dbmap.specs.Sound.{IsEditOf, IsFirst, Sound}
 use Rattle.bcv_dbmap.proofs.Bools.{neither_or, not_passed, not_both}
 use Rattle.bcv_dbmap.proofs.EditLaws.{edit_writer}
-use Rattle.bcv_dbmap.proofs.PastLaws.{last_not, last_rules, dead_listed}
+use Rattle.bcv_dbmap.proofs.PastLaws.{last_not, last_rules}
 use Rattle.bcv_dbmap.proofs.SoundLaws.{other_line, line_below, lawful_keeps_sound}
 
 -- ---- what each lawful entry keeps, lawful entries keep
@@ -125,18 +125,3 @@ pub others_leave_mine : OthersLeaveMine
 others_leave_mine mine log others s lawful =
     subst (IsUntouched mine (history_of log)) (sym (history_after-append [] log others))
     (kept_by_all mine (IsUntouched mine) (nothing_touched mine) (untouched_through mine) (one_leaves mine) others (history_of log) s lawful)
-
--- what was never listed never was dead
-pub unlisted_undead : (past : List Item) (i : Id16) → Sound past → was_listed past i ≡ false → was_dead past i ≡ false
-unlisted_undead past i s unlisted = not_passed (was_dead past i) (λ dead. not_both (was_listed past i) (dead_listed past i s.made dead) unlisted)
-
-pub own_block_stays : OwnBlockStays
-own_block_stays mine log others size i s lawful own =
-    let u = others_leave_mine mine log others s lawful in
-    let unlisted = u.unlisted i own.is_mine own.unlisted in
-    record {
-      is_mine = own.is_mine;
-      there = (own.there.0, u.bytes i own.is_mine ∙ own.there.1, own.there.2);
-      unlisted = unlisted;
-      not_dead = unlisted_undead (history_of (log ++ others)) i (others_keep_sound mine log others s lawful) unlisted;
-    }
