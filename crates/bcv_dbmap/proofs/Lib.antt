@@ -4,6 +4,7 @@ pub mod Appends
 pub mod BlockLaws
 pub mod Bools
 pub mod Chosen
+pub mod CleanupLaws
 pub mod Counts
 pub mod DeadLaws
 pub mod EditLaws

@@ -1,5 +1,6 @@
 -- The laws of blocks: of the objects of their names, of fresh names, of own puts, and of dead blocks.
-use Rattle.std.specs.Prelude.{◌≡◌, ◌≤◌, ◌<◌, ◌+◌, ◌^◌, ◌⊎◌, ℕ, true, false, List, ◌∷◌, ◌++◌, length, Option, Some, None}
+use Rattle.std.specs.Prelude.{◌≡◌, ◌≤◌, ◌<◌, ◌+◌, ◌^◌, ◌⊎◌, ℕ, Bool, true, false, not, List, ◌∷◌, ◌++◌, length, Option, Some, None, slice_get}
+use Rattle.std.specs.List.{filter}
 use Rattle.bcv_base.specs.declared.id.Id16.{Id16}
 use Rattle.bcv_base.specs.declared.log.Entry.{Entry}
 use Rattle.bcv_base.specs.declared.manifest.Dead.{Dead}
@@ -9,9 +10,10 @@ use Rattle.bcv_base.specs.History.{Item, BlockPut, Published, last_of, first_put
 use Rattle.bcv_base.specs.Ids.{has_id, IsId}
 use Rattle.bcv_base.specs.Keyed.{keyed}
 use Rattle.bcv_base.specs.Log.{Object, object_of}
-use Rattle.bcv_base.specs.ManifestRules.{dead_id, is_block_size}
-use Rattle.bcv_dbmap.specs.Applied.{first_manifest}
-use Rattle.bcv_dbmap.specs.Deletions.{IsDeletable}
+use Rattle.bcv_base.specs.ManifestRules.{dead_id, is_block_size, MeetsRules}
+use Rattle.bcv_dbmap.specs.declared.plan.EditPlan.TheVariants as plan
+use Rattle.bcv_dbmap.specs.Applied.{applied, first_manifest}
+use Rattle.bcv_dbmap.specs.Deletions.{IsDeletable, cleaned}
 use Rattle.bcv_dbmap.specs.Growth.{IsLawful, AreLawful}
 use Rattle.bcv_dbmap.specs.Honest.{AreApart}
 use Rattle.bcv_dbmap.specs.Outlived.{IsPublished}
@@ -75,3 +77,15 @@ abbrev pub DeadIsDeletable : Type 0
 DeadIsDeletable =
     (past : List Item) (m : Manifest) (i : Id16) (e : Dead) (at : ℕ) → Sound past → IsPublished m past → keyed dead_id i.0 m.dead ≡ Some e
     → e.stamp + m.retention ≤ at → IsDeletable past i at
+
+-- what a cleanup takes is in the delete list, and the test releases it
+abbrev pub CleanedIsDead : Type 0
+CleanedIsDead =
+    (m : Manifest) (released : Dead → Bool) (n : ℕ) (e : Dead) → MeetsRules m → slice_get (cleaned released m.dead) n ≡ Some e
+    → (keyed dead_id e.id.0 m.dead ≡ Some e) × (released e ≡ true)
+
+-- a sweep leaves the dead blocks of other ids, as they were
+abbrev pub SweepLeavesOthers : Type 0
+SweepLeavesOthers =
+    (m : Manifest) (ids : List Id16) (id writer : Id16) (moment : ℕ) → MeetsRules m
+    → (applied m (plan.Sweep ids) id writer moment).dead ≡ filter (λ e. not (has_id e.id ids)) m.dead

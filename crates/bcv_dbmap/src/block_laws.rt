@@ -9,6 +9,8 @@ ghost use Rattle.bcv_dbmap.specs.BlockLaws.{
   FreshPutIsOwn,
   FirstIsLawful,
   DeadIsDeletable,
+  CleanedIsDead,
+  SweepLeavesOthers,
 };
 
 /// The object of a block's name has the bytes that were put first; where there is none, the block was never put, or it was
@@ -51,4 +53,14 @@ pub fn first_is_lawful()
 /// A dead block of a published manifest may be deleted once the retention has passed since its stamp. Cleanup rests on it.
 pub fn dead_is_deletable()
     ensures { DeadIsDeletable }
+{}
+
+/// What a cleanup takes of a manifest is in its delete list, and released.
+pub fn cleaned_is_dead()
+    ensures { CleanedIsDead }
+{}
+
+/// A sweep leaves the dead blocks of other ids as they were.
+pub fn sweep_leaves_others()
+    ensures { SweepLeavesOthers }
 {}

@@ -1,10 +1,10 @@
 //! The laws of edits and of sound logs. Each function does nothing: its clause is the law, for proofs to cite.
 
-ghost use Rattle.std.specs.Prelude.{ℕ, List, [], ◌∷◌};
-ghost use Rattle.bcv_base.specs.History.{BlockPut, BlockDeleted, Published};
+ghost use Rattle.std.specs.Prelude.{ℕ, List, []};
+ghost use Rattle.bcv_base.specs.History.{BlockDeleted};
 ghost use Rattle.bcv_dbmap.specs.Growth.{IsLawful};
 ghost use Rattle.bcv_dbmap.specs.Sound.{Sound};
-ghost use Rattle.bcv_dbmap.specs.Worked.{block, zeros, created, made, until_removed, life};
+ghost use Rattle.bcv_dbmap.specs.Worked.{block, until_uploaded, until_removed, life};
 ghost use Rattle.bcv_dbmap.specs.Laws.{
   AppliedAppendsEdit,
   AppliedHasVersions,
@@ -111,10 +111,11 @@ pub fn full_is_many()
     ensures { FullIsMany }
 {}
 
-/// The life of one database is sound: it is made, removed, its block deleted when the retention has passed, and swept. A
-/// second earlier the deletion is not lawful, and while the block is listed none is.
+/// The life of a database is sound: it is made, another writer copies it and uploads another version of it, its copy is
+/// removed, and the block that only the copy still listed is deleted when the retention has passed, and swept. A second
+/// earlier the deletion is not lawful, and while the copy lists the block none is.
 pub fn a_life_is_sound()
     ensures sound { Sound life }
     ensures early { IsLawful [] until_removed (BlockDeleted block 34) → ⊥ }
-    ensures listed { (at : ℕ) → IsLawful [] (Published made ∷ BlockPut block zeros ∷ Published created ∷ []) (BlockDeleted block at) → ⊥ }
+    ensures listed { (at : ℕ) → IsLawful [] until_uploaded (BlockDeleted block at) → ⊥ }
 {}
