@@ -8,7 +8,7 @@ use Rattle.bcv_base.specs.declared.manifest.Dead.{Dead}
 use Rattle.bcv_base.specs.declared.manifest.Manifest.{Manifest}
 use Rattle.bcv_base.specs.declared.object.ObjName.TheVariants as object
 use Rattle.bcv_base.specs.History.{Item, BlockPut, Published, Unreadable, BlockDeleted, ManifestDeleted, Always, as_read, last_of, first_put, history_after, history_of}
-use Rattle.bcv_base.specs.HistoryLaws.{id_eq-is, id_eq-self, first_put-stays}
+use Rattle.bcv_base.specs.HistoryLaws.{id_eq-is, id_eq-self, first_put-stays, has_block-stays}
 use Rattle.bcv_base.specs.Ids.{id_eq}
 use Rattle.bcv_base.specs.Image.{or_else}
 use Rattle.bcv_base.specs.Keyed.{keyed}
@@ -17,13 +17,14 @@ use Rattle.bcv_base.specs.ManifestGrammar.{manifest_of}
 use Rattle.bcv_base.specs.ManifestRules.{dead_id, lists, is_dead}
 use Rattle.bcv_base.specs.Versions.{IsVersion, Reads}
 use Rattle.bcv_dbmap.specs.Applied.{first_manifest}
-use Rattle.bcv_dbmap.specs.BlockLaws.{IsObjectOf, BlockIsFirstPut, UnputHasNoObject, UnputIsFresh, FreshNameStays, OwnBlockStays, IsOwnPut, FreshPutIsOwn, FirstIsLawful, DeadIsDeletable}
+use Rattle.bcv_dbmap.specs.BlockLaws.{IsObjectOf, BlockIsFirstPut, UnputHasNoObject, UnputIsFresh, FreshNameStays, OwnBlockStays, OwnBlockAfterPut, IsOwnPut, FreshPutIsOwn, FirstIsLawful, DeadIsDeletable}
 use Rattle.bcv_dbmap.specs.Deletions.{IsSafe}
 use Rattle.bcv_dbmap.specs.Growth.{Creates, Publishes}
 use Rattle.bcv_dbmap.specs.Outlived.{IsPublished}
 use Rattle.bcv_dbmap.specs.Past.{some_manifest, was_listed, was_dead, was_deleted, is_old}
 use Rattle.bcv_dbmap.specs.Sound.{IsFirst, IsMade, IsPutOnce, Sound}
 use Rattle.bcv_dbmap.proofs.Bools.{or_cases, or_left, or_right, not_passed, not_both}
+use Rattle.bcv_dbmap.proofs.ManifestLaws.{by_published}
 use Rattle.bcv_dbmap.proofs.OthersLaws.{others_keep_sound, others_leave_mine}
 use Rattle.bcv_dbmap.proofs.PastLaws.{last_dead, deleted_dead, dead_listed}
 use Rattle.bcv_dbmap.proofs.RulesLaws.{first_meets_rules}
@@ -174,6 +175,10 @@ own_block_stays mine log others size i s lawful own =
       not_dead = unlisted_undead (history_of (log ++ others)) i (others_keep_sound mine log others s lawful).made unlisted;
     }
 
+pub own_block_after_put : OwnBlockAfterPut
+own_block_after_put mine past size i j bytes own =
+    record { is_mine = own.is_mine; there = has_block-stays (BlockPut j bytes) past i size own.there; unlisted = own.unlisted; not_dead = own.not_dead }
+
 pub fresh_put_is_own : FreshPutIsOwn
 fresh_put_is_own mine theirs past i bytes fresh =
     let first : first_put (BlockPut i bytes ∷ past) i ≡ Some bytes =
@@ -194,22 +199,16 @@ first_is_lawful theirs past block retention id writer moment size small short is
 
 -- ---- dead blocks
 
--- what a published manifest is, some manifest is
+-- what holds of a published manifest holds of some
+some_later : (test : Manifest → Bool) (x : Item) (past : List Item) → some_manifest test past ≡ true → some_manifest test (x ∷ past) ≡ true
+some_later test (BlockPut j bytes) past h = h
+some_later test (Published m) past h = or_right (test m) (some_manifest test past) h
+some_later test Unreadable past h = h
+some_later test (BlockDeleted j at) past h = h
+some_later test ManifestDeleted past h = h
+
 published_some : (test : Manifest → Bool) (past : List Item) (m : Manifest) → IsPublished m past → test m ≡ true → some_manifest test past ≡ true
-published_some test [] m p h = absurd p
-published_some test (BlockPut j bytes ∷ past) m (inl p) h = absurd cc
-published_some test (BlockPut j bytes ∷ past) m (inr p) h = published_some test past m p h
-published_some test (Published k ∷ past) m (inl p) h = or_left (test k) (some_manifest test past) (subst (λ (x : Manifest). test x ≡ true) (same_item m k (sym p)) h)
-  where
-    same_item : (a b : Manifest) → Published a ≡ Published b → a ≡ b
-    same_item a b e = cc
-published_some test (Published k ∷ past) m (inr p) h = or_right (test k) (some_manifest test past) (published_some test past m p h)
-published_some test (Unreadable ∷ past) m (inl p) h = absurd cc
-published_some test (Unreadable ∷ past) m (inr p) h = published_some test past m p h
-published_some test (BlockDeleted j at ∷ past) m (inl p) h = absurd cc
-published_some test (BlockDeleted j at ∷ past) m (inr p) h = published_some test past m p h
-published_some test (ManifestDeleted ∷ past) m (inl p) h = absurd cc
-published_some test (ManifestDeleted ∷ past) m (inr p) h = published_some test past m p h
+published_some test past m p h = by_published (λ (l : List Item). some_manifest test l ≡ true) m (λ before. or_left (test m) (some_manifest test before) h) (some_later test) past p
 
 pub dead_is_deletable : DeadIsDeletable
 dead_is_deletable past m i e at s p there passed =

@@ -1,5 +1,5 @@
 -- What holds of each published manifest of a sound history, and of its writers.
-use Rattle.std.proofs.Common.{◌≡◌, ◌∙◌, ℕ, zero, suc, ◌+◌, ◌-◌, ◌≤◌, ◌<◌, Bool, true, cond, inl, inr, List, [], ◌∷◌, ◌++◌, length, Option, Some, None, slice_get, refl, sym, ap, subst, eq-eqb, arith}
+use Rattle.std.proofs.Common.{◌≡◌, ◌∙◌, ℕ, zero, suc, ◌+◌, ◌-◌, ◌≤◌, ◌<◌, Bool, true, cond, inl, inr, List, [], ◌∷◌, ◌++◌, length, Option, Some, None, MatchOption, slice_get, refl, sym, ap, subst, eq-eqb, arith}
 use Rattle.std.proofs.lemmas.Option.{same_Some}
 use Rattle.bcv_base.specs.declared.id.Id16.{Id16}
 use Rattle.bcv_base.specs.declared.log.Entry.{Entry}
@@ -72,20 +72,15 @@ few_writers past m s last = few_made past m s.made last
 
 -- ---- published manifests
 
-none_published : (m : Manifest) (past : List Item) → last_of past ≡ None → IsPublished m past → ⊥
-none_published m [] last is = is
-none_published m (BlockPut i bytes ∷ past) last (inl is) = absurd cc
-none_published m (BlockPut i bytes ∷ past) last (inr is) = none_published m past last is
-none_published m (Published k ∷ past) last is = absurd cc
-none_published m (Unreadable ∷ past) last (inl is) = absurd cc
-none_published m (Unreadable ∷ past) last (inr is) = none_published m past last is
-none_published m (BlockDeleted i at ∷ past) last (inl is) = absurd cc
-none_published m (BlockDeleted i at ∷ past) last (inr is) = none_published m past last is
-none_published m (ManifestDeleted ∷ past) last (inl is) = absurd cc
-none_published m (ManifestDeleted ∷ past) last (inr is) = none_published m past last is
+-- an induction over what comes after a published manifest
+pub by_published : (P : List Item → Type 0) (m : Manifest) → ((past : List Item) → P (Published m ∷ past)) → ((x : Item) (past : List Item) → P past → P (x ∷ past))
+    → (past : List Item) → IsPublished m past → P past
+by_published P m first later [] p = absurd p
+by_published P m first later (x ∷ past) (inl is) = subst (λ (y : Item). P (y ∷ past)) (sym is) (first past)
+by_published P m first later (x ∷ past) (inr before) = later x past (by_published P m first later past before)
 
-itself : (m k : Manifest) → k ≡ m → IsUpTo m k
-itself m k e = subst (λ (x : Manifest). IsUpTo m x) (sym e) (record { block = refl; retention = refl; number = omega arith; moment = omega arith })
+itself : (m : Manifest) → IsUpTo m m
+itself m = record { block = refl; retention = refl; number = omega arith; moment = omega arith }
 
 up_to_edit : (old k m : Manifest) → IsEditOf old k → IsUpTo old m → IsUpTo k m
 up_to_edit old k m e u =
@@ -97,28 +92,24 @@ up_to_edit old k m e u =
       moment = omega (arith, u.moment, moment);
     }
 
-made_up_to : (past : List Item) (m last : Manifest) → Always IsMade past → last_of past ≡ Some last → IsPublished m past → IsUpTo last m
-made_up_to [] m last made is (p) = absurd p
-made_up_to (BlockPut i bytes ∷ past) m last made is (inl p) = absurd cc
-made_up_to (BlockPut i bytes ∷ past) m last made is (inr p) = made_up_to past m last made.0 is p
-made_up_to (Published k ∷ past) m last made is (inl p) = itself last m (sym (same_item k m p) ∙ same_Some k last is)
+-- the last manifest is up to it
+abbrev IsBeforeLast : Manifest → List Item → Type 0
+IsBeforeLast m past = Always IsMade past → MatchOption (last_of past) ⊥ (λ (k : Manifest). IsUpTo k m)
+
+one_later : (m : Manifest) (x : Item) (past : List Item) → IsBeforeLast m past → IsBeforeLast m (x ∷ past)
+one_later m (BlockPut i bytes) past before made = before made.0
+one_later m (Published k) past before made = over (last_of past) made.1 (before made.0)
   where
-    same_item : (a b : Manifest) → Published a ≡ Published b → a ≡ b
-    same_item a b e = cc
-made_up_to (Published k ∷ past) m last made is (inr p) = subst (λ (x : Manifest). IsUpTo x m) (same_Some k last is) (over (last_of past) refl made.1 (λ old there. made_up_to past m old made.0 there p))
-  where
-    over : (o : Option Manifest) → last_of past ≡ o → Follows o k → ((old : Manifest) → last_of past ≡ Some old → IsUpTo old m) → IsUpTo k m
-    over None there follows before = absurd (none_published m past there p)
-    over (Some old) there follows before = up_to_edit old k m follows (before old there)
-made_up_to (Unreadable ∷ past) m last made is (inl p) = absurd cc
-made_up_to (Unreadable ∷ past) m last made is (inr p) = made_up_to past m last made.0 is p
-made_up_to (BlockDeleted i at ∷ past) m last made is (inl p) = absurd cc
-made_up_to (BlockDeleted i at ∷ past) m last made is (inr p) = made_up_to past m last made.0 is p
-made_up_to (ManifestDeleted ∷ past) m last made is (inl p) = absurd cc
-made_up_to (ManifestDeleted ∷ past) m last made is (inr p) = made_up_to past m last made.0 is p
+    over : (o : Option Manifest) → Follows o k → MatchOption o ⊥ (λ (old : Manifest). IsUpTo old m) → IsUpTo k m
+    over None follows none = absurd none
+    over (Some old) follows up_to = up_to_edit old k m follows up_to
+one_later m Unreadable past before made = before made.0
+one_later m (BlockDeleted i at) past before made = before made.0
+one_later m ManifestDeleted past before made = before made.0
 
 pub published_is_up_to : PublishedIsUpTo
-published_is_up_to past m last s is p = made_up_to past m last s.made is p
+published_is_up_to past m last s is p =
+    subst (λ (o : Option Manifest). MatchOption o ⊥ (λ (k : Manifest). IsUpTo k m)) is (by_published (IsBeforeLast m) m (λ before made. itself m) (one_later m) past p s.made)
 
 -- ---- versions
 
@@ -164,16 +155,8 @@ in_now past m reads is =
     }
 
 published_in : (past : List Item) (m : Manifest) → Always Reads past → IsPublished m past → IsIn past m
-published_in [] m reads p = absurd p
-published_in (BlockPut i bytes ∷ past) m reads (inl p) = absurd cc
-published_in (Published k ∷ past) m reads (inl p) = subst (λ (x : Manifest). IsIn (Published k ∷ past) x) (same_item k m p) (in_now past k reads.0 reads.1)
-  where
-    same_item : (a b : Manifest) → Published a ≡ Published b → a ≡ b
-    same_item a b e = cc
-published_in (Unreadable ∷ past) m reads (inl p) = absurd cc
-published_in (BlockDeleted i at ∷ past) m reads (inl p) = absurd cc
-published_in (ManifestDeleted ∷ past) m reads (inl p) = absurd cc
-published_in (x ∷ past) m reads (inr p) = in_later x past m (published_in past m reads.0 p)
+published_in past m reads p =
+    by_published (λ (l : List Item). Always Reads l → IsIn l m) m (λ before r. in_now before m r.0 r.1) (λ x before is r. in_later x before m (is r.0)) past p reads
 
 pub published_is_version : PublishedIsVersion
 published_is_version past m s p = (published_in past m s.reads p).is

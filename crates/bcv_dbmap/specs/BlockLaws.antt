@@ -54,6 +54,11 @@ OwnBlockStays =
     (mine : List Id16) (log others : List Entry) (size : ℕ) (i : Id16) → IsSoundLog log → AreLawful mine (history_of log) others
     → IsOwnBlock mine (history_of log) size i → IsOwnBlock mine (history_of (log ++ others)) size i
 
+-- and after the put of another block
+abbrev pub OwnBlockAfterPut : Type 0
+OwnBlockAfterPut =
+    (mine : List Id16) (past : List Item) (size : ℕ) (i j : Id16) (bytes : List ℕ) → IsOwnBlock mine past size i → IsOwnBlock mine (BlockPut j bytes ∷ past) size i
+
 -- a put under a fresh name is lawful to every client that shares no name, and makes a block of mine
 pub record IsOwnPut (mine theirs : List Id16) (past : List Item) (i : Id16) (bytes : List ℕ) : Type 0 where
   pub lawful : AreApart mine theirs → IsLawful theirs past (BlockPut i bytes)

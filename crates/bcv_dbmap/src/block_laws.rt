@@ -6,6 +6,7 @@ ghost use Rattle.bcv_dbmap.specs.BlockLaws.{
   UnputIsFresh,
   FreshNameStays,
   OwnBlockStays,
+  OwnBlockAfterPut,
   FreshPutIsOwn,
   FirstIsLawful,
   DeadIsDeletable,
@@ -38,6 +39,11 @@ pub fn fresh_name_stays()
 /// and publish later rest on it.
 pub fn own_block_stays()
     ensures { OwnBlockStays }
+{}
+
+/// A block that was put for a publication to come stays one after the put of another block.
+pub fn own_block_after_put()
+    ensures { OwnBlockAfterPut }
 {}
 
 /// A put under a fresh name is lawful to every client that shares no name, and makes a block for a publication to come.

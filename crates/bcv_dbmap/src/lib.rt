@@ -30,7 +30,8 @@ pub use applying::apply;
 pub use begin::first;
 pub use block_laws::{
     block_is_first_put, cleaned_is_dead, dead_is_deletable, first_is_lawful, fresh_name_stays,
-    fresh_put_is_own, own_block_stays, sweep_leaves_others, unput_has_no_object, unput_is_fresh,
+    fresh_put_is_own, own_block_after_put, own_block_stays, sweep_leaves_others,
+    unput_has_no_object, unput_is_fresh,
 };
 pub use checking::check;
 pub use fault::EditFault;
