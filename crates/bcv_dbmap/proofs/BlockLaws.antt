@@ -1,5 +1,5 @@
 -- What a sound history says of the objects of blocks, of fresh names and of dead blocks.
-use Rattle.std.proofs.Common.{◌≡◌, ◌∙◌, ℕ, ◌+◌, ◌≤◌, Bool, true, false, ◌||◌, cond, ◌⊎◌, inl, inr, List, [], ◌∷◌, ◌++◌, Option, Some, None, is_some, IfSome, Result, Ok, Err, refl, sym, ap, subst}
+use Rattle.std.proofs.Common.{◌≡◌, ◌∙◌, ℕ, ◌+◌, Bool, true, false, ◌||◌, cond, inl, inr, List, [], ◌∷◌, ◌++◌, Option, Some, None, is_some, IfSome, Result, Ok, Err, refl, sym, ap, subst}
 use Rattle.std.proofs.lemmas.Bool.{le-leb}
 use Rattle.bcv_base.specs.declared.id.Id16.{Id16}
 use Rattle.bcv_base.specs.declared.log.Entry.{Entry}
@@ -12,17 +12,17 @@ use Rattle.bcv_base.specs.HistoryLaws.{id_eq-is, id_eq-self, first_put-stays, ha
 use Rattle.bcv_base.specs.Ids.{id_eq}
 use Rattle.bcv_base.specs.Image.{or_else}
 use Rattle.bcv_base.specs.Keyed.{keyed}
-use Rattle.bcv_base.specs.Log.{Object, object_after, object_of}
+use Rattle.bcv_base.specs.Log.{Object, object_after}
 use Rattle.bcv_base.specs.ManifestGrammar.{manifest_of}
 use Rattle.bcv_base.specs.ManifestRules.{dead_id, lists, is_dead}
 use Rattle.bcv_base.specs.Versions.{IsVersion, Reads}
 use Rattle.bcv_dbmap.specs.Applied.{first_manifest}
-use Rattle.bcv_dbmap.specs.BlockLaws.{IsObjectOf, BlockIsFirstPut, UnputHasNoObject, UnputIsFresh, FreshNameStays, OwnBlockStays, OwnBlockAfterPut, IsOwnPut, FreshPutIsOwn, FirstIsLawful, DeadIsDeletable}
+use Rattle.bcv_dbmap.specs.BlockLaws.{IsObjectOf, BlockIsFirstPut, UnputHasNoObject, UnputIsFresh, FreshNameStays, OwnBlockStays, OwnBlockAfterPut, FreshPutIsOwn, FirstIsLawful, DeadIsDeletable}
 use Rattle.bcv_dbmap.specs.Deletions.{IsSafe}
 use Rattle.bcv_dbmap.specs.Growth.{Creates, Publishes}
 use Rattle.bcv_dbmap.specs.Outlived.{IsPublished}
 use Rattle.bcv_dbmap.specs.Past.{some_manifest, was_listed, was_dead, was_deleted, is_old}
-use Rattle.bcv_dbmap.specs.Sound.{IsFirst, IsMade, IsPutOnce, Sound}
+use Rattle.bcv_dbmap.specs.Sound.{IsFirst, IsMade, IsPutOnce}
 use Rattle.bcv_dbmap.proofs.Bools.{or_cases, or_left, or_right, not_passed, not_both}
 use Rattle.bcv_dbmap.proofs.ManifestLaws.{by_published}
 use Rattle.bcv_dbmap.proofs.OthersLaws.{others_keep_sound, others_leave_mine}

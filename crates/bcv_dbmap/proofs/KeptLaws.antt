@@ -17,7 +17,7 @@ use Rattle.bcv_base.specs.LogLaws.{object_after-append}
 use Rattle.bcv_base.specs.ManifestGrammar.{manifest_of}
 use Rattle.bcv_base.specs.Versions.{Reads}
 use Rattle.bcv_dbmap.specs.Sound.{Sound, KeepsManifest}
-use Rattle.bcv_dbmap.specs.Kept.{IsKept, Stays}
+use Rattle.bcv_dbmap.specs.Kept.{Stays}
 use Rattle.bcv_dbmap.specs.ManifestLaws.{ObjectIsKept, KeptStays, KeptIsPublished, KeptIsStillOrBehind}
 use Rattle.bcv_dbmap.specs.Outlived.{IsPublished}
 

@@ -1,12 +1,12 @@
 -- What holds of each published manifest of a sound history, and of its writers.
-use Rattle.std.proofs.Common.{◌≡◌, ◌∙◌, ℕ, zero, suc, ◌+◌, ◌-◌, ◌≤◌, ◌<◌, Bool, true, cond, inl, inr, List, [], ◌∷◌, ◌++◌, length, Option, Some, None, MatchOption, slice_get, refl, sym, ap, subst, eq-eqb, arith}
+use Rattle.std.proofs.Common.{◌≡◌, ◌∙◌, ℕ, zero, suc, ◌+◌, ◌-◌, ◌≤◌, Bool, true, cond, inl, inr, List, [], ◌∷◌, ◌++◌, length, Option, Some, None, MatchOption, slice_get, refl, sym, ap, subst, eq-eqb, arith}
 use Rattle.std.proofs.lemmas.Option.{same_Some}
 use Rattle.bcv_base.specs.declared.id.Id16.{Id16}
 use Rattle.bcv_base.specs.declared.log.Entry.{Entry}
 use Rattle.bcv_base.specs.declared.manifest.Manifest.{Manifest}
 use Rattle.bcv_base.specs.declared.manifest.Writer.{Writer}
-use Rattle.bcv_base.specs.History.{Item, BlockPut, Published, Unreadable, BlockDeleted, ManifestDeleted, HasBlock, Always, last_of, count_of, item_of, history_after, history_of}
-use Rattle.bcv_base.specs.HistoryLaws.{id_eq-self, has_block-stays, version-stays, version-count, history_after-append}
+use Rattle.bcv_base.specs.History.{Item, BlockPut, Published, Unreadable, BlockDeleted, ManifestDeleted, HasBlock, Always, last_of, item_of, history_after, history_of}
+use Rattle.bcv_base.specs.HistoryLaws.{has_block-stays, version-stays, version-count, history_after-append}
 use Rattle.bcv_base.specs.ManifestRules.{writer_id, lists}
 use Rattle.bcv_base.specs.Version.{Version}
 use Rattle.bcv_base.specs.Versions.{IsVersion, Reads, version_of, versions_of}
@@ -14,7 +14,7 @@ use Rattle.bcv_dbmap.specs.Applied.{applied, writers_after}
 use Rattle.bcv_dbmap.specs.ManifestLaws.{LineIsLastOwn, NoneIsLastOwn, AppliedIsLastOwn, FirstIsLastOwn, LastOwnStays, FewWriters, IsUpTo, PublishedIsUpTo, IsVersionOf, PublishedIsVersion, ImagesStay}
 use Rattle.bcv_dbmap.specs.Outlived.{IsPublished}
 use Rattle.bcv_dbmap.specs.Past.{Publication, is_numbered, writer_of, last_own}
-use Rattle.bcv_dbmap.specs.Sound.{IsEditOf, IsFirst, Follows, IsMade, AreLast, Sound}
+use Rattle.bcv_dbmap.specs.Sound.{IsEditOf, IsFirst, Follows, IsMade, AreLast}
 use Rattle.bcv_dbmap.proofs.Appends.{more_of}
 use Rattle.bcv_dbmap.proofs.EditLaws.{edit_number, edit_block, edit_retention}
 use Rattle.bcv_dbmap.proofs.Keys.{keyed_at, length_with}

@@ -1,5 +1,5 @@
 -- The put of a manifest that is made of the last one, or of a first one, is not refused: it is one version more.
-use Rattle.std.proofs.Common.{◌≡◌, ◌∙◌, ℕ, ◌+◌, Bool, List, [], ◌∷◌, ◌++◌, Ok, refl, sym, ap, subst}
+use Rattle.std.proofs.Common.{◌≡◌, ◌∙◌, ℕ, ◌+◌, Bool, List, [], ◌∷◌, ◌++◌, Ok, sym, ap, subst}
 use Rattle.bcv_base.specs.declared.log.Entry.{Entry}
 use Rattle.bcv_base.specs.declared.log.Entry.TheVariants as entry
 use Rattle.bcv_base.specs.declared.manifest.Manifest.{Manifest}

@@ -1,5 +1,5 @@
 -- What lawful entries of others keep: a sound history, and what is mine as it was.
-use Rattle.std.proofs.Common.{◌≡◌, ◌∙◌, ℕ, Bool, true, false, cond, List, [], ◌∷◌, ◌++◌, Option, Some, None, refl, sym, ap, subst}
+use Rattle.std.proofs.Common.{◌≡◌, ◌∙◌, ℕ, Bool, true, false, cond, List, [], ◌∷◌, Option, Some, None, refl, sym, ap, subst}
 use Rattle.bcv_base.specs.declared.id.Id16.{Id16}
 use Rattle.bcv_base.specs.declared.log.Entry.{Entry}
 use Rattle.bcv_base.specs.declared.manifest.Manifest.{Manifest}
@@ -9,7 +9,6 @@ use Rattle.bcv_base.specs.HistoryLaws.{id_eq-is, history_after-append}
 use Rattle.bcv_base.specs.Ids.{id_eq, has_id}
 use Rattle.bcv_base.specs.Image.{or_else}
 use Rattle.bcv_base.specs.ManifestRules.{lists, MeetsRules}
-use Rattle.bcv_dbmap.specs.Deletions.{IsDeletable}
 use Rattle.bcv_dbmap.specs.Growth.{Edits, Creates, Publishes, PutsNew, IsPublication, IsLawful, AreLawful, IsUntouched}
 use Rattle.bcv_dbmap.specs.Laws.{OthersKeepSound, OthersLeaveMine}
 use Rattle.bcv_dbmap.specs.Past.{was_listed, has_version, is_numbered, writer_of}
