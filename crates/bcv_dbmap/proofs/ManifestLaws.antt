@@ -1,5 +1,5 @@
 -- What holds of each published manifest of a sound history, and of its writers.
-use Rattle.std.proofs.Common.{◌≡◌, ◌∙◌, ℕ, zero, suc, ◌+◌, ◌-◌, ◌≤◌, Bool, true, cond, inl, inr, List, [], ◌∷◌, ◌++◌, length, Option, Some, None, MatchOption, slice_get, refl, sym, ap, subst, eq-eqb, arith}
+use Rattle.std.proofs.Common.{◌≡◌, ◌∙◌, ℕ, zero, suc, ◌+◌, ◌-◌, ◌≤◌, Bool, true, false, cond, inl, inr, List, [], ◌∷◌, ◌++◌, length, Option, Some, None, MatchOption, slice_get, refl, sym, ap, subst, eq-eqb, arith}
 use Rattle.std.proofs.lemmas.Option.{same_Some}
 use Rattle.bcv_base.specs.declared.id.Id16.{Id16}
 use Rattle.bcv_base.specs.declared.log.Entry.{Entry}
@@ -11,9 +11,9 @@ use Rattle.bcv_base.specs.ManifestRules.{writer_id, lists}
 use Rattle.bcv_base.specs.Version.{Version}
 use Rattle.bcv_base.specs.Versions.{IsVersion, Reads, version_of, versions_of}
 use Rattle.bcv_dbmap.specs.Applied.{applied, writers_after}
-use Rattle.bcv_dbmap.specs.ManifestLaws.{LineIsLastOwn, NoneIsLastOwn, AppliedIsLastOwn, FirstIsLastOwn, LastOwnStays, FewWriters, IsUpTo, PublishedIsUpTo, IsVersionOf, PublishedIsVersion, ImagesStay}
+use Rattle.bcv_dbmap.specs.ManifestLaws.{LineIsLastOwn, NoneIsLastOwn, IsOwnOf, LastOwnIsPublished, AppliedIsLastOwn, FirstIsLastOwn, LastOwnStays, FewWriters, IsUpTo, PublishedIsUpTo, IsVersionOf, PublishedIsVersion, ImagesStay}
 use Rattle.bcv_dbmap.specs.Outlived.{IsPublished}
-use Rattle.bcv_dbmap.specs.Past.{Publication, is_numbered, writer_of, last_own}
+use Rattle.bcv_dbmap.specs.Past.{Publication, is_own, is_numbered, writer_of, last_own}
 use Rattle.bcv_dbmap.specs.Sound.{IsEditOf, IsFirst, Follows, IsMade, AreLast}
 use Rattle.bcv_dbmap.proofs.Appends.{more_of}
 use Rattle.bcv_dbmap.proofs.EditLaws.{edit_number, edit_block, edit_retention}
@@ -28,6 +28,24 @@ line_is_last_own past m writer s last = of_last (AreLast past) past m last s.wri
 
 pub none_is_last_own : NoneIsLastOwn
 none_is_last_own past writer last = no_own past writer last
+
+own_later : (x : Item) (past : List Item) (writer : Id16) (p : Publication) → IsOwnOf past writer p → IsOwnOf (x ∷ past) writer p
+own_later x past writer p o = record { manifest = o.manifest; published = inr o.published; own = o.own; id = o.id; number = o.number }
+
+pub last_own_is_published : LastOwnIsPublished
+last_own_is_published [] writer p h = absurd cc
+last_own_is_published (BlockPut i bytes ∷ past) writer p h = own_later (BlockPut i bytes) past writer p (last_own_is_published past writer p h)
+last_own_is_published (Published m ∷ past) writer p h = own (is_own writer m) refl h (λ g. last_own_is_published past writer p g)
+  where
+    made : Publication
+    made = record { id = m.id; number = m.number }
+
+    own : (b : Bool) → is_own writer m ≡ b → cond b (Some made) (last_own past writer) ≡ Some p → (last_own past writer ≡ Some p → IsOwnOf past writer p) → IsOwnOf (Published m ∷ past) writer p
+    own true is h rest = let same : made ≡ p = same_Some made p h in record { manifest = m; published = inl refl; own = is; id = ap (λ (q : Publication). q.id) same; number = ap (λ (q : Publication). q.number) same }
+    own false is h rest = own_later (Published m) past writer p (rest h)
+last_own_is_published (Unreadable ∷ past) writer p h = own_later Unreadable past writer p (last_own_is_published past writer p h)
+last_own_is_published (BlockDeleted i at ∷ past) writer p h = own_later (BlockDeleted i at) past writer p (last_own_is_published past writer p h)
+last_own_is_published (ManifestDeleted ∷ past) writer p h = own_later ManifestDeleted past writer p (last_own_is_published past writer p h)
 
 -- a manifest in which a writer's line has its number is that writer's last own one
 numbered_own : (past : List Item) (m : Manifest) (writer : Id16) (line : Writer) → writer_of writer m.writers ≡ Some line → line.number ≡ m.number

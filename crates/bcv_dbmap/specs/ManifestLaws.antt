@@ -15,7 +15,7 @@ use Rattle.bcv_dbmap.specs.Applied.{applied, first_manifest}
 use Rattle.bcv_dbmap.specs.Growth.{AreLawful}
 use Rattle.bcv_dbmap.specs.Kept.{IsKept, Stays}
 use Rattle.bcv_dbmap.specs.Outlived.{IsPublished}
-use Rattle.bcv_dbmap.specs.Past.{Publication, writer_of, told_by, last_own}
+use Rattle.bcv_dbmap.specs.Past.{Publication, writer_of, told_by, is_own, last_own}
 use Rattle.bcv_dbmap.specs.Sound.{Sound, IsSoundLog}
 
 -- ---- writers
@@ -30,6 +30,17 @@ NoneIsLastOwn = (past : List Item) (writer : Id16) → last_of past ≡ None →
 
 abbrev pub publication : Id16 → ℕ → Publication
 publication id number = record { id = id; number = number }
+
+-- a writer's last own manifest was published
+pub record IsOwnOf (past : List Item) (writer : Id16) (p : Publication) : Type 0 where
+  pub manifest : Manifest
+  pub published : IsPublished manifest past
+  pub own : is_own writer manifest ≡ true
+  pub id : manifest.id ≡ p.id
+  pub number : manifest.number ≡ p.number
+
+abbrev pub LastOwnIsPublished : Type 0
+LastOwnIsPublished = (past : List Item) (writer : Id16) (p : Publication) → last_own past writer ≡ Some p → IsOwnOf past writer p
 
 -- what a writer makes of a manifest is his last own one, and so is his first manifest
 abbrev pub AppliedIsLastOwn : Type 0

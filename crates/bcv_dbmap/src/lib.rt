@@ -44,7 +44,7 @@ pub use laws::{
 pub use listing::listed;
 pub use manifest_laws::{
     applied_is_last_own, few_writers, first_is_last_own, images_stay, kept_is_published,
-    kept_is_still_or_behind, kept_stays, last_own_stays, line_is_last_own, none_is_last_own,
-    object_is_kept, published_is_up_to, published_is_version,
+    kept_is_still_or_behind, kept_stays, last_own_is_published, last_own_stays, line_is_last_own,
+    none_is_last_own, object_is_kept, published_is_up_to, published_is_version,
 };
 pub use plan::EditPlan;

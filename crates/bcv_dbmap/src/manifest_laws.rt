@@ -3,6 +3,7 @@
 ghost use Rattle.bcv_dbmap.specs.ManifestLaws.{
   LineIsLastOwn,
   NoneIsLastOwn,
+  LastOwnIsPublished,
   AppliedIsLastOwn,
   FirstIsLastOwn,
   LastOwnStays,
@@ -25,6 +26,11 @@ pub fn line_is_last_own()
 /// Where no manifest was published, no writer has an own one.
 pub fn none_is_last_own()
     ensures { NoneIsLastOwn }
+{}
+
+/// A writer's last own manifest was published, with its id and number.
+pub fn last_own_is_published()
+    ensures { LastOwnIsPublished }
 {}
 
 /// What a writer makes of a manifest is his last own one.
