@@ -1,6 +1,10 @@
--- Safe deletions: no block is deleted while it is listed or within its retention, and none is listed again.
-use Rattle.std.specs.Prelude.{◌≡◌, ℕ, true, false, List, IfSome}
+-- Safe deletions: no block is deleted while it is listed or within its retention, and none is listed again; and complete
+-- cleanups.
+use Rattle.std.specs.Prelude.{◌≡◌, ℕ, Bool, true, false, List, take, IfSome}
+use Rattle.std.specs.List.{filter, list_any}
 use Rattle.bcv_base.specs.declared.id.Id16.{Id16}
+use Rattle.bcv_base.specs.declared.manifest.Dead.{Dead}
+use Rattle.bcv_base.specs.declared.manifest.Manifest.{Manifest}
 use Rattle.bcv_base.specs.History.{Item, BlockPut, Published, Unreadable, BlockDeleted, ManifestDeleted, Always, last_of}
 use Rattle.bcv_base.specs.ManifestRules.{lists}
 use Rattle.bcv_dbmap.specs.Past.{was_expired, was_deleted}
@@ -22,3 +26,19 @@ IsSafe past ManifestDeleted = Unit {0}
 -- all deletions of a history are safe
 abbrev pub SafeDeletions : List Item → Type 0
 SafeDeletions past = Always IsSafe past
+
+-- ---- cleanups
+
+-- the dead blocks that a cleanup takes at most
+abbrev pub most_cleaned : ℕ
+most_cleaned = 64
+
+-- what a cleanup takes of a delete list, which ascends by id: the first ones of those that a test releases
+abbrev pub cleaned : (Dead → Bool) → List Dead → List Dead
+cleaned released dead = take most_cleaned (filter released dead)
+
+-- a cleanup is complete: of one manifest it took the first dead blocks that a test releases, and it says that there are more
+-- exactly where the delete list of a later manifest has one that the test releases
+pub record CleanedAll (released : Dead → Bool) (read last : Manifest) (taken : List Dead) (more : Bool) : Type 0 where
+  pub takes : taken ≡ cleaned released read.dead
+  pub left : more ≡ list_any released last.dead

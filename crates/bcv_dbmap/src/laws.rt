@@ -1,13 +1,16 @@
 //! The laws of edits and of sound logs. Each function does nothing: its clause is the law, for proofs to cite.
 
-ghost use Rattle.std.specs.Prelude.{ℕ, List, [], ◌∷◌};
-ghost use Rattle.bcv_base.specs.History.{BlockPut, BlockDeleted, Published};
+ghost use Rattle.std.specs.Prelude.{ℕ, List, []};
+ghost use Rattle.bcv_base.specs.History.{BlockDeleted};
 ghost use Rattle.bcv_dbmap.specs.Growth.{IsLawful};
 ghost use Rattle.bcv_dbmap.specs.Sound.{Sound};
-ghost use Rattle.bcv_dbmap.specs.Worked.{block, zeros, created, made, until_removed, life};
+ghost use Rattle.bcv_dbmap.specs.Worked.{block, until_uploaded, until_removed, life};
 ghost use Rattle.bcv_dbmap.specs.Laws.{
   AppliedAppendsEdit,
+  AppliedHasVersions,
+  FillsItself,
   FirstCreates,
+  FirstHasVersions,
   FirstMeetsRules,
   AppliedMeetsRules,
   AppliedMeetsLimits,
@@ -16,7 +19,6 @@ ghost use Rattle.bcv_dbmap.specs.Laws.{
   OthersKeepSound,
   VersionsStay,
   OthersLeaveMine,
-  OwnBlockStays,
   PublishedIsLawful,
   DeletedIsOutlived,
   GoneIsOutlived,
@@ -24,15 +26,18 @@ ghost use Rattle.bcv_dbmap.specs.Laws.{
 ghost use Rattle.bcv_dbmap.specs.Room.{FullIsMany};
 
 /// What a plan makes of the last manifest, published behind its new blocks, appends the plan's edit to the versions. The
-/// publish engine says with it which version its put made, and the world that the put is the machine's edit.
+/// publish engine says with it which version its put made, and the world that the put is the machine's edit. Where the plan
+/// passes and fits, such a put is not refused.
 pub fn applied_appends_edit()
-    ensures { AppliedAppendsEdit }
+    ensures appends { AppliedAppendsEdit }
+    ensures stands { AppliedHasVersions }
 {}
 
 /// A first manifest makes the first version, with no database. For the publish engine's first put of a container, and for
 /// the world's create.
 pub fn first_creates()
-    ensures { FirstCreates }
+    ensures creates { FirstCreates }
+    ensures stands { FirstHasVersions }
 {}
 
 /// A first manifest meets the rules and the limits of a manifest, and is short. The publish engine may write it by this.
@@ -49,6 +54,11 @@ pub fn applied_meets_rules()
 /// the limits and is short. The publish engine checks a plan by this before it puts the blocks.
 pub fn applied_meets_limits()
     ensures { AppliedMeetsLimits }
+{}
+
+/// A plan fills itself: what passes for it passes for it with the ids that it has.
+pub fn fills_itself()
+    ensures { FillsItself }
 {}
 
 /// A log with no entry is sound. The world begins with it.
@@ -77,12 +87,6 @@ pub fn others_leave_mine()
     ensures { OthersLeaveMine }
 {}
 
-/// A block that was put for a publication to come stays one while others append lawful entries. Requests that put blocks
-/// and publish later rest on it.
-pub fn own_block_stays()
-    ensures { OwnBlockStays }
-{}
-
 /// A publication of one's own that passes, over the last manifest, with a fresh id and new blocks, is lawful to every
 /// other client that shares no name. The world joins the clients' promises by it.
 pub fn published_is_lawful()
@@ -107,10 +111,11 @@ pub fn full_is_many()
     ensures { FullIsMany }
 {}
 
-/// The life of one database is sound: it is made, removed, its block deleted when the retention has passed, and swept. A
-/// second earlier the deletion is not lawful, and while the block is listed none is.
+/// The life of a database is sound: it is made, another writer copies it and uploads another version of it, its copy is
+/// removed, and the block that only the copy still listed is deleted when the retention has passed, and swept. A second
+/// earlier the deletion is not lawful, and while the copy lists the block none is.
 pub fn a_life_is_sound()
     ensures sound { Sound life }
     ensures early { IsLawful [] until_removed (BlockDeleted block 34) → ⊥ }
-    ensures listed { (at : ℕ) → IsLawful [] (Published made ∷ BlockPut block zeros ∷ Published created ∷ []) (BlockDeleted block at) → ⊥ }
+    ensures listed { (at : ℕ) → IsLawful [] until_uploaded (BlockDeleted block at) → ⊥ }
 {}
