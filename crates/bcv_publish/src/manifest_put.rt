@@ -1,20 +1,19 @@
 //! The manifest's put.
-ghost use Rattle.std.specs.Prelude.{◌≡◌, ◌≤◌, ◌<◌, ◌⊎◌, ◌+◌, List, length, IfOk, IsSome, MatchOption};
-ghost use Rattle.bcv_base.specs.declared.id.Id16.{Id16};
-ghost use Rattle.bcv_base.specs.Faults.{Rose};
-ghost use Rattle.bcv_base.specs.History.{history_of};
-ghost use Rattle.bcv_base.specs.ManifestGrammar.{manifest_of};
-ghost use Rattle.bcv_dbmap.specs.Honest.{GrewHonestly};
-ghost use Rattle.bcv_dbmap.specs.Sound.{Sound};
-ghost use Rattle.bcv_store.specs.Plans.{rest_of};
-ghost use Rattle.bcv_publish.specs.Putting.{made, IsReady, MayPublish, Puts, PutLeaves, PutsSound};
-ghost use Rattle.bcv_publish.specs.Steps.{IsMadeOf, Ended, Refuses};
+ghost use Rattle.std.specs.Prelude.{◌≡◌, ◌<◌, ◌+◌, length, IsSome, IfOk, MatchOption};
+ghost use Rattle.bcv_publish.specs.ManifestPut.{
+  Ended,
+  IsMadeOf,
+  IsReady,
+  ManifestPuts,
+  PutLeaves,
+  Refuses,
+};
 
+use crate::manifest_append::append_manifest;
 use crate::publish::Publish;
 use crate::work::PutEnd;
-use bcv_base::{Latest, Manifest, ObjName};
+use bcv_base::{Latest, Manifest};
 use bcv_dbmap::{EditPlan, apply};
-use bcv_manifest::write_manifest;
 use bcv_store::{Cond, Put, Store};
 use std::alloc::{AllocError, Global};
 
@@ -33,43 +32,40 @@ impl Publish {
     ) -> PutEnd
         requires ready { MatchOption self.old.latest ⊥ (λ read. IsReady read.manifest plan.now self.old.writer) }
         requires few { length self.old.refused < 8 }
-        ensures leaves { MatchOption self.old.latest ⊥ (λ read. PutLeaves plan.now moment self.old read result self.new) }
-        ensures told { S.tells → MatchOption self.old.latest ⊥ (λ read. Puts S.alone S.plans (S.plan store.old) (S.log store.old) (S.log store.new) self.old read plan.now moment result self.new) }
-        ensures sound { S.tells → (mine : List Id16) → Sound (history_of (S.log store.old)) → GrewHonestly mine (S.log store.old) (S.log store.new) → MatchOption self.old.latest ⊥ (λ read. MayPublish mine (S.log store.old) self.old read plan.now moment → PutsSound S.alone S.plans (S.plan store.old) mine (S.log store.old) (S.log store.new) self.old read plan.now moment result self.new) }
-        ensures taken { S.plans → (S.plan store.new ≡ rest_of (S.plan store.old)) ⊎ ((result ≡ PutEnd.NoMemory) × (store.new ≡ store.old)) }
-        ensures later { S.faults store.old ≤ S.faults store.new }
-        ensures failed { result ≡ PutEnd.Unknown → Rose (S.faults store.old) (S.faults store.new) }
+        ensures leaves {
+            MatchOption self.old.latest ⊥ (λ read.
+                PutLeaves plan.now moment self.old read result self.new)
+        }
+        ensures puts {
+            MatchOption self.old.latest ⊥ (λ read.
+                ManifestPuts S.told (S.shown store.old) (S.shown store.new)
+                    self.old read plan.now moment result self.new)
+        }
+        ensures reached { S.reaches store.old store.new }
     {
-        let (manifest, bytes) = match self.made(alloc, plan, moment) {
-            Ok(made) => made,
+        let manifest = match self.made(alloc, plan, moment) {
+            Ok(manifest) => manifest,
             Err(_) => return PutEnd::NoMemory,
         };
-        let etag = self.etag();
-        let answer = store.put(alloc, &ObjName::Manifest, Cond::Match(etag), &bytes);
+        let condition = Cond::Match(self.etag());
+        let answer = append_manifest(alloc, store, condition, &manifest);
         self.end(answer, manifest)
     }
 
-    // The manifest that the put brings, and its bytes.
-    fn made(
-        &self,
-        alloc: Global,
-        plan: &EditPlan,
-        moment: u64,
-    ) -> Result<(Manifest, Vec<u8>), AllocError>
+    // The manifest that the put brings.
+    fn made(&self, alloc: Global, plan: &EditPlan, moment: u64) -> Result<Manifest, AllocError>
         requires { MatchOption self.now.latest ⊥ (λ read. IsReady read.manifest plan.now self.now.writer) }
-        ensures { IfOk result (λ x. MatchOption self.now.latest ⊥ (λ read. IsMadeOf self.now read plan.now moment x.0 x.1.items)) }
+        ensures { IfOk result (λ m. MatchOption self.now.latest ⊥ (λ read. IsMadeOf self.now read plan.now moment m)) }
     {
         let _id = self.id.bytes();
         let _writer = self.writer.bytes();
         let Some(read) = &self.latest else {
             unreachable!()
         };
-        let manifest = apply(alloc, &read.manifest, plan, self.id, self.writer, moment)?;
-        let bytes = write_manifest(alloc, &manifest)?;
-        Ok((manifest, bytes))
+        apply(alloc, &read.manifest, plan, self.id, self.writer, moment)
     }
 
-    // What an answer of the store comes to, for the put of a manifest.
+    // How the put of a manifest ends for the publication.
     fn end(&mut self, answer: Put, manifest: Manifest) -> PutEnd
         requires few { length self.old.refused < 8 }
         requires next { MatchOption self.old.latest ⊥ (λ read. manifest.number ≡ read.manifest.number + 1) }
