@@ -14,11 +14,13 @@ pub mod ManifestGrammar
 pub mod ManifestRules
 pub mod ManifestText
 pub mod Memory
+pub mod Moments
 pub mod Names
 pub mod Numbered
 pub mod Objects
 pub mod Padded
 pub mod Plan
+pub mod SetMoment
 pub mod Streams
 pub mod Version
 pub mod Versions
