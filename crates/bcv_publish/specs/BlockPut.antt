@@ -6,7 +6,7 @@ use Rattle.bcv_base.specs.declared.log.Entry.TheVariants as entry
 use Rattle.bcv_base.specs.declared.object.ObjName.TheVariants as object
 use Rattle.bcv_base.specs.declared.outcome.Outcome.{Outcome}
 use Rattle.bcv_base.specs.declared.outcome.Outcome.TheVariants as outcome
-use Rattle.bcv_base.specs.Drawn.{AddsNames}
+use Rattle.bcv_base.specs.Drawn.{NamesShown, AddsNames}
 use Rattle.bcv_base.specs.Faults.{Rose}
 use Rattle.bcv_base.specs.History.{Item, history_of, first_put}
 use Rattle.bcv_base.specs.Ids.{has_id}
@@ -114,16 +114,22 @@ BlockTakes store old new block.NamesFault = new ≡ old
 BlockTakes store old new block.NoMemory = MayTakeOutcome store old new
 BlockTakes store old new _ = TakesOutcome store old new
 
--- what a put says of the store and of the names, and the store's cause
-pub record BlockPuts (store : StoreTold) (old new : StoreShown) (names_old names_new : Option (List Id16)) (bytes : List ℕ) (ids : List Id16) (result : BlockEnd) (ids_new : List Id16) : Type 0 where
+-- the names fail exactly where their count of faults rose
+abbrev pub BlockNamesCause : ℕ → ℕ → BlockEnd → Type 0
+BlockNamesCause before now block.NamesFault = (before ≤ now) × Rose before now
+BlockNamesCause before now _ = now ≡ before
+
+-- what a put says of the store and of the names, and its causes
+pub record BlockPuts (store : StoreTold) (old new : StoreShown) (names later_names : NamesShown) (bytes : List ℕ) (ids : List Id16) (result : BlockEnd) (ids_new : List Id16) : Type 0 where
   pub drawn : List Id16
-  pub names : AddsNames names_old names_new drawn
+  pub adds : AddsNames names.drawn later_names.drawn drawn
   pub leaves : BlockPutLeaves drawn ids result ids_new
   pub told : store.tells → BlockPutTold store old new drawn bytes result
   pub sound : OverSoundLog store old new (λ mine. AreFresh mine old.log drawn → BlockPutSound store mine old new drawn bytes result)
   pub taken : BlockTakes store old new result
   pub later : old.faults ≤ new.faults
   pub failed : result ≡ block.StoreFault → Rose old.faults new.faults
+  pub names_failed : BlockNamesCause names.faults later_names.faults result
 
 -- ---- the parts of a put, apart from the store
 

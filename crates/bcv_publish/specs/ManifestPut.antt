@@ -9,7 +9,7 @@ use Rattle.bcv_base.specs.declared.outcome.Outcome.TheVariants as outcome
 use Rattle.bcv_base.specs.declared.seen.Latest.{Latest}
 use Rattle.bcv_base.specs.Faults.{Rose}
 use Rattle.bcv_base.specs.History.{history_of, last_of}
-use Rattle.bcv_base.specs.Ids.{has_id, IsId}
+use Rattle.bcv_base.specs.Ids.{has_id}
 use Rattle.bcv_base.specs.Log.{object_of}
 use Rattle.bcv_base.specs.ManifestRules.{MeetsRules, MeetsLimits, lists}
 use Rattle.bcv_dbmap.specs.declared.plan.EditPlan.{EditPlan}
@@ -139,8 +139,6 @@ pub record IsMadeOf (p : State) (read : Latest) (plan : EditPlan) (moment : ℕ)
   pub made : m ≡ made p read plan moment
   pub rules : MeetsRules m
   pub limits : MeetsLimits m
-  pub id : IsId p.id
-  pub writer : IsId p.writer
 
 -- what is answered where the put is refused
 abbrev pub Refuses : State → Latest → PutEnd → State → Type 0

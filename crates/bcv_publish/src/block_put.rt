@@ -1,7 +1,6 @@
 //! The put of a block under a name that is drawn for it.
-ghost use Rattle.std.specs.Prelude.{◌≡◌, ◌≤◌, ◌<◌, vec_len, vec_capacity};
+ghost use Rattle.std.specs.Prelude.{◌<◌, vec_len, vec_capacity};
 ghost use Rattle.std.specs.List.{AllByRecursion};
-ghost use Rattle.bcv_base.specs.Faults.{Rose};
 ghost use Rattle.bcv_base.specs.Ids.{IsId};
 ghost use Rattle.bcv_publish.specs.BlockPut.{BlockAnswered, BlockPuts};
 
@@ -21,13 +20,11 @@ pub fn put_named<S: Store, N: Names>(
     ids: &mut Vec<Id16>,
 ) -> BlockEnd
     ensures puts {
-        BlockPuts S.told (S.shown store.old) (S.shown store.new) (N.drawn names.old) (N.drawn names.new)
+        BlockPuts S.told (S.shown store.old) (S.shown store.new) (N.shown names.old) (N.shown names.new)
             bytes.now ids.old.items result ids.new.items
     }
     ensures ids { AllByRecursion IsId ids.old.items → AllByRecursion IsId ids.new.items }
     ensures reached { S.reaches store.old store.new }
-    ensures later_names { N.faults names.old ≤ N.faults names.new }
-    ensures failed_names { result ≡ BlockEnd.NamesFault → Rose (N.faults names.old) (N.faults names.new) }
 {
     if ids.reserve(1).is_err() {
         return BlockEnd::NoMemory;

@@ -1,9 +1,8 @@
 //! The manifest's get.
-ghost use Rattle.std.specs.Prelude.{Some};
-ghost use Rattle.bcv_base.specs.ManifestRules.{MeetsRules, MeetsLimits};
+ghost use Rattle.bcv_base.specs.declared.seen.Seen.{Seen};
 ghost use Rattle.bcv_dbmap.specs.Checked.{checked};
 ghost use Rattle.bcv_publish.specs.ManifestGet.{GetLeaves, Keeps, ManifestGets};
-ghost use Rattle.bcv_publish.specs.State.{RisesTo};
+ghost use Rattle.bcv_publish.specs.ManifestRead.{IsTaken};
 
 use crate::publish::Publish;
 use crate::work::Work;
@@ -38,9 +37,7 @@ impl Publish {
 
     // Keeps a manifest where the edit may be published over it.
     fn keep(&mut self, latest: Latest, plan: &EditPlan) -> Work
-        requires rises { RisesTo self.old.refused (Some latest) }
-        requires rules { MeetsRules latest.manifest }
-        requires limits { MeetsLimits latest.manifest }
+        requires follows { (seen : Seen) × IsTaken self.old seen latest }
         ensures { Keeps (checked latest.manifest plan.now self.old.writer) latest self.old result self.new }
     {
         if let Err(fault) = check(&latest.manifest, plan, &self.writer) {

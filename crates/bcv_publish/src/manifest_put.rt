@@ -1,5 +1,6 @@
 //! The manifest's put.
 ghost use Rattle.std.specs.Prelude.{◌≡◌, ◌<◌, ◌+◌, length, IsSome, IfOk, MatchOption};
+ghost use Rattle.bcv_base.specs.Ids.{IsId};
 ghost use Rattle.bcv_publish.specs.ManifestPut.{
   Ended,
   IsMadeOf,
@@ -55,7 +56,9 @@ impl Publish {
     // The manifest that the put brings.
     fn made(&self, alloc: Global, plan: &EditPlan, moment: u64) -> Result<Manifest, AllocError>
         requires { MatchOption self.now.latest ⊥ (λ read. IsReady read.manifest plan.now self.now.writer) }
-        ensures { IfOk result (λ m. MatchOption self.now.latest ⊥ (λ read. IsMadeOf self.now read plan.now moment m)) }
+        ensures made { IfOk result (λ m. MatchOption self.now.latest ⊥ (λ read. IsMadeOf self.now read plan.now moment m)) }
+        ensures id { IsId self.now.id }
+        ensures writer { IsId self.now.writer }
     {
         let _id = self.id.bytes();
         let _writer = self.writer.bytes();
