@@ -1,4 +1,5 @@
 pub mod AppendLaws
+pub mod BlockPutLaws
 pub mod CreateLaws
 pub mod GetLaws
 pub mod Growth
@@ -8,3 +9,4 @@ pub mod PutLaws
 pub mod ReadLaws
 pub mod Ready
 pub mod Rising
+pub mod Unput
