@@ -4,9 +4,9 @@ use Rattle.bcv_base.specs.declared.seen.Latest.{Latest}
 use Rattle.bcv_base.specs.declared.seen.Seen.{Seen}
 use Rattle.bcv_publish.specs.declared.work.PutEnd.TheVariants as put
 use Rattle.bcv_publish.specs.declared.work.Work.TheVariants as work
-use Rattle.bcv_dbcopy.specs.Putting.{PutLeaves}
+use Rattle.bcv_dbcopy.specs.TaskPut.{PutLeaves}
 use Rattle.bcv_dbcopy.specs.State.{State, IsTask, is_ready, left_of, manifest_requests}
-use Rattle.bcv_dbcopy.specs.Working.{WorkLeaves}
+use Rattle.bcv_dbcopy.specs.TaskWork.{WorkLeaves}
 
 -- how many puts may still be refused
 abbrev pub refusals_of : State → ℕ
