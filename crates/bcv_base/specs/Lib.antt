@@ -1,10 +1,11 @@
+pub mod BlockCounts
 pub mod DatabaseHeader
 pub mod Drawn
 pub mod Edits
 pub mod Faults
-pub mod Ids
 pub mod History
 pub mod HistoryLaws
+pub mod Ids
 pub mod Image
 pub mod Joined
 pub mod Keyed
@@ -21,6 +22,7 @@ pub mod Objects
 pub mod Padded
 pub mod Plan
 pub mod SetMoment
+pub mod SizeLimits
 pub mod Streams
 pub mod Version
 pub mod Versions

@@ -1,17 +1,19 @@
 //! Names, images and the traits of the outside, on which every other crate stands.
 //!
 //! It stands on std, and on the crate `hex` for ids in text. Texts are read and written exactly: a reading answers
-//! `None` where the text is no name, and only there. Each trait of the outside ([`Source`], [`Sink`], [`Clock`], [`Names`]) has
-//! a count of faults, and a call of it fails exactly where that count rose. Over the forms in memory ([`MemSource`],
-//! [`MemSink`], [`SetClock`], [`CountNames`]) contracts also see which bytes, moments or names went by and which calls
-//! fail; over the adapters ([`StdSource`], [`StdSink`]) they see the bytes where the reader or writer tells them. No call here takes memory but
-//! those that are handed some: a clone, a sink in memory and a writer that allocates.
+//! `None` where the text is no name, and only there. Each trait of the outside ([`Source`], [`Sink`], [`Clock`],
+//! [`Names`]) has a count of faults, and a call of it fails exactly where that count rose. Over the forms in memory
+//! ([`MemSource`], [`MemSink`], [`SetClock`], [`CountNames`]) contracts also see which bytes, moments or names went by
+//! and which calls fail; over the adapters ([`StdSource`], [`StdSink`]) they see the bytes where the reader or writer
+//! tells them. No call here takes memory but those that are handed some: a clone, a sink in memory and a writer that
+//! allocates.
 #![tactic(auto)]
 
 mod clock;
 mod count_names;
 mod id;
 mod layout;
+pub mod limits;
 mod log;
 mod manifest;
 mod mem_sink;
@@ -27,6 +29,7 @@ mod seen;
 mod seq;
 mod set_clock;
 mod sink;
+mod sizes;
 mod source;
 mod std_sink;
 mod std_source;
@@ -35,7 +38,7 @@ mod tests;
 
 pub use clock::{Clock, Now};
 pub use count_names::CountNames;
-pub use id::Id16;
+pub use id::{Id16, is_one_of};
 pub use layout::manifest_len;
 pub use log::Entry;
 pub use manifest::{DbEntry, Dead, Manifest, Writer};
@@ -51,6 +54,7 @@ pub use seen::{Latest, Seen, TxnBase};
 pub use seq::Seq;
 pub use set_clock::SetClock;
 pub use sink::{Gave, Sink};
+pub use sizes::{blocks_needed, is_block_size, is_page_size};
 pub use source::{Source, Took};
 pub use std_sink::StdSink;
 pub use std_source::StdSource;

@@ -7,7 +7,7 @@ use Rattle.bcv_base.specs.declared.manifest.Manifest.{Manifest}
 use Rattle.bcv_base.specs.Edits.{edited, created}
 use Rattle.bcv_base.specs.History.{Item, Published, Always, last_of, history_of}
 use Rattle.bcv_base.specs.Ids.{has_id, IsId}
-use Rattle.bcv_base.specs.ManifestRules.{MeetsRules, MeetsLimits, lists, is_block_size}
+use Rattle.bcv_base.specs.ManifestRules.{MeetsRules, MeetsLimits, IsShort, lists, is_block_size}
 use Rattle.bcv_base.specs.Version.{Version}
 use Rattle.bcv_base.specs.Versions.{version_of, versions_of, Reads}
 use Rattle.bcv_dbmap.specs.declared.plan.EditPlan.{EditPlan}
@@ -15,6 +15,7 @@ use Rattle.bcv_dbmap.specs.Applied.{applied, first_manifest, edit_of, swept_ids,
 use Rattle.bcv_dbmap.specs.Checked.{checked}
 use Rattle.bcv_dbmap.specs.Filled.{Fills}
 use Rattle.bcv_dbmap.specs.Growth.{IsNewBlock, IsLawful, AreLawful, IsUntouched}
+use Rattle.bcv_dbmap.specs.OwnBlock.{IsOwnBlock}
 use Rattle.bcv_dbmap.specs.Outlived.{IsDeletedIn, IsOutlived, IsGone}
 use Rattle.bcv_dbmap.specs.Past.{IsAmong, has_version, was_deleted}
 use Rattle.bcv_dbmap.specs.Sound.{Sound, IsSoundLog}
@@ -34,11 +35,11 @@ FirstCreates =
     (past : List Item) (block retention : ℕ) (id writer : Id16) (moment : ℕ) → Always Reads past → last_of past ≡ None
     → versions_of (Published (first_manifest block retention id writer moment) ∷ past) ≡ created id moment ∷ []
 
--- a first manifest meets the rules and the limits
+-- a first manifest meets the rules and the limits, and is short
 abbrev pub FirstMeetsRules : Type 0
 FirstMeetsRules =
     (block retention : ℕ) (id writer : Id16) (moment : ℕ) → is_block_size block ≡ true → retention < 2 ^ 64 → moment < 2 ^ 64 → IsId id → IsId writer
-    → MeetsRules (first_manifest block retention id writer moment) × MeetsLimits (first_manifest block retention id writer moment)
+    → MeetsRules (first_manifest block retention id writer moment) × MeetsLimits (first_manifest block retention id writer moment) × IsShort (first_manifest block retention id writer moment)
 
 -- what is applied meets the rules
 abbrev pub AppliedMeetsRules : Type 0
@@ -46,11 +47,11 @@ AppliedMeetsRules =
     (m : Manifest) (plan : EditPlan) (id writer : Id16) (moment : ℕ) → MeetsRules m → FitsPlan m.block plan → checked m plan writer ≡ None
     → moment < 2 ^ 64 → IsId id → IsId writer → MeetsRules (applied m plan id writer moment)
 
--- what passes with zeros passes with any ids in their place, and what is applied then keeps within the limits
+-- what passes with zeros passes with any ids in their place, and what is applied then keeps within the limits and is short
 abbrev pub AppliedMeetsLimits : Type 0
 AppliedMeetsLimits =
     (m : Manifest) (asked plan : EditPlan) (id writer : Id16) (moment : ℕ) → MeetsRules m → MeetsLimits m → FitsPlan m.block plan
-    → checked m asked writer ≡ None → Fills asked plan → (checked m plan writer ≡ None) × MeetsLimits (applied m plan id writer moment)
+    → checked m asked writer ≡ None → Fills asked plan → (checked m plan writer ≡ None) × MeetsLimits (applied m plan id writer moment) × IsShort (applied m plan id writer moment)
 
 -- ---- sound histories
 
@@ -72,6 +73,12 @@ abbrev pub OthersLeaveMine : Type 0
 OthersLeaveMine =
     (mine : List Id16) (log others : List Entry) → IsSoundLog log → AreLawful mine (history_of log) others
     → IsUntouched mine (history_of log) (history_of (log ++ others))
+
+-- a block of mine that was put for a publication to come stays one
+abbrev pub OwnBlockStays : Type 0
+OwnBlockStays =
+    (mine : List Id16) (log others : List Entry) (size : ℕ) (i : Id16) → IsSoundLog log → AreLawful mine (history_of log) others
+    → IsOwnBlock mine (history_of log) size i → IsOwnBlock mine (history_of (log ++ others)) size i
 
 -- a publication of one's own that passes, over the last manifest, with a fresh id and new blocks, is lawful to every other
 -- client that shares no name

@@ -5,10 +5,13 @@ pub mod Deletions
 pub mod Filled
 pub mod Growth
 pub mod Honest
+pub mod Kept
 pub mod Laws
 pub mod Merged
 pub mod Outlived
+pub mod OwnBlock
 pub mod Past
+pub mod RequestGrowth
 pub mod Room
 pub mod Sound
 pub mod Tried

@@ -16,6 +16,7 @@ ghost use Rattle.bcv_dbmap.specs.Laws.{
   OthersKeepSound,
   VersionsStay,
   OthersLeaveMine,
+  OwnBlockStays,
   PublishedIsLawful,
   DeletedIsOutlived,
   GoneIsOutlived,
@@ -34,7 +35,7 @@ pub fn first_creates()
     ensures { FirstCreates }
 {}
 
-/// A first manifest meets the rules and the limits of a manifest. The publish engine may write it by this.
+/// A first manifest meets the rules and the limits of a manifest, and is short. The publish engine may write it by this.
 pub fn first_meets_rules()
     ensures { FirstMeetsRules }
 {}
@@ -45,7 +46,7 @@ pub fn applied_meets_rules()
 {}
 
 /// A plan that passes with zeros in place of ids passes with any ids in their place, and what is applied then keeps within
-/// the limits. The publish engine checks a plan by this before it puts the blocks.
+/// the limits and is short. The publish engine checks a plan by this before it puts the blocks.
 pub fn applied_meets_limits()
     ensures { AppliedMeetsLimits }
 {}
@@ -74,6 +75,12 @@ pub fn versions_stay()
 /// publication of a writer. The publish engine finds its blocks and its fate by it, over a put whose answer was lost.
 pub fn others_leave_mine()
     ensures { OthersLeaveMine }
+{}
+
+/// A block that was put for a publication to come stays one while others append lawful entries. Requests that put blocks
+/// and publish later rest on it.
+pub fn own_block_stays()
+    ensures { OwnBlockStays }
 {}
 
 /// A publication of one's own that passes, over the last manifest, with a fresh id and new blocks, is lawful to every

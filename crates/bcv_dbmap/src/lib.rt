@@ -31,7 +31,7 @@ pub use fault::EditFault;
 pub use laws::{
     a_life_is_sound, applied_appends_edit, applied_meets_limits, applied_meets_rules,
     deleted_is_outlived, empty_is_sound, first_creates, first_meets_rules, full_is_many,
-    gone_is_outlived, lawful_keeps_sound, others_keep_sound, others_leave_mine,
+    gone_is_outlived, lawful_keeps_sound, others_keep_sound, others_leave_mine, own_block_stays,
     published_is_lawful, versions_stay,
 };
 pub use listing::listed;

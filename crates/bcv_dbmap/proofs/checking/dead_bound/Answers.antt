@@ -1,7 +1,7 @@
 use Rattle.std.proofs.Common.{◌≡◌, ◌≤◌, length, ap, ◌∙◌, arith}
 use Rattle.bcv_dbmap.specs.Merged.{leaving}
 use Rattle.bcv_dbmap.proofs.Counts.{few_leaving}
-use Rattle.bcv_dbmap.proofs.checking.most_dead.Goals as goal
+use Rattle.bcv_dbmap.proofs.checking.dead_bound.Goals as goal
 
 pub returns-clause-small : goal.returns-clause-small
 returns-clause-small c =
