@@ -20,6 +20,9 @@ use Rattle.bcv_dbmap.specs.Honest.{AreApart}
 use Rattle.bcv_dbmap.specs.OwnBlock.{IsOwnBlock}
 use Rattle.bcv_dbmap.specs.Past.{was_listed, was_deleted}
 use Rattle.bcv_dbmap.specs.Sound.{Sound}
+use Rattle.bcv_dbmap.specs.Kept.{Stays}
+use Rattle.bcv_dbmap.proofs.Fills.{fills_itself}
+use Rattle.bcv_dbmap.proofs.KeptLaws.{kept_longer, kept_stays}
 use Rattle.bcv_dbmap.proofs.OthersLaws.{unlisted_undead}
 use Rattle.bcv_dbmap.proofs.Publishes.{published_is_lawful}
 use Rattle.bcv_store.specs.declared.store.Cond.TheVariants as cond
@@ -34,8 +37,6 @@ use Rattle.bcv_publish.specs.ManifestPut.{made, IsReady, MayPublish, PutEnds, So
 use Rattle.bcv_publish.specs.State.{State}
 use Rattle.bcv_publish.proofs.AppendLaws.{SoundAppendEnds, SoundFails, IsLawfulWhere, append_sound, none_appends}
 use Rattle.bcv_publish.proofs.Growth.{Later}
-use Rattle.bcv_publish.proofs.LastManifest.{Stays, kept_stays, kept_longer}
-use Rattle.bcv_publish.proofs.Made.{fills_itself}
 
 -- ---- the own publication is lawful
 
