@@ -1,7 +1,7 @@
 -- The notes around a publication that is no upload, and what is kept behind them.
 use Rattle.std.specs.Prelude.{ℕ, ◌+◌, List, [], ◌∷◌, Some, None}
 use Rattle.bcv_base.specs.declared.id.Id16.{Id16}
-use Rattle.bcv_model.specs.MachineState.{State, Here, Client, KeptState, Task, Up, with_client, without, without_task}
+use Rattle.bcv_model.specs.MachineState.{State, Here, Client, KeptState, Pending, Task, Up, with_client, without, without_task}
 
 -- what a note of so many bytes adds to those noted
 abbrev pub noted_by : ℕ → ℕ
