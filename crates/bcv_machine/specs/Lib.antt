@@ -1,0 +1,16 @@
+pub mod CrashAndUp
+pub mod Gone
+pub mod LocalWriting
+pub mod ManifestGet
+pub mod ManifestPut
+pub mod MiddleStep
+pub mod Noting
+pub mod Poll
+pub mod Reading
+pub mod Refusals
+pub mod Resolve
+pub mod Run
+pub mod Starting
+pub mod State
+pub mod Step
+pub mod Tick
