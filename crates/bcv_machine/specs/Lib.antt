@@ -10,6 +10,7 @@ pub mod Reading
 pub mod Refusals
 pub mod Resolve
 pub mod Run
+pub mod Scripts
 pub mod Starting
 pub mod State
 pub mod Step
