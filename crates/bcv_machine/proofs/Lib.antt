@@ -1,1 +1,3 @@
 mod Accepted
+mod OneState
+mod Refused

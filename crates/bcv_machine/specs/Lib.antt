@@ -1,5 +1,6 @@
 pub mod CrashAndUp
 pub mod Gone
+pub mod Laws
 pub mod LocalWriting
 pub mod ManifestGet
 pub mod ManifestPut

@@ -61,9 +61,13 @@ puts n k = steps_with outcome.Ok n (Some k) (reply.Done k)
 abbrev pub acts : ℕ → Act → Reply → Line
 acts n what r = record { event = event.Of n what; said = says r; choice = draws 0 }
 
--- the machine accepts the lines, and reaches this state
+-- from a state the machine accepts the lines, and reaches another
+abbrev pub PlaysFrom : State → List Line → State → Type 0
+PlaysFrom a ls b = Run a (map (λ (l : Line). l.event) ls) (map (λ (l : Line). l.said) ls) (map (λ (l : Line). l.choice) ls) b
+
+-- from the beginning
 abbrev pub Plays : List Line → State → Type 0
-Plays ls b = Run (first_state 2 2) (map (λ (l : Line). l.event) ls) (map (λ (l : Line). l.said) ls) (map (λ (l : Line). l.choice) ls) b
+Plays ls b = PlaysFrom (first_state 2 2) ls b
 
 -- ---- pages and commits
 

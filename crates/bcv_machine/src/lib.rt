@@ -2,12 +2,10 @@
 #![tactic(auto)]
 
 ghost use Rattle.std.specs.Prelude.{◌≡◌, ℕ, ◌++◌};
-ghost use Rattle.bcv_base.specs.Image.{Page};
-ghost use Rattle.bcv_machine.specs.State.{State};
-ghost use Rattle.bcv_machine.specs.Scripts.{Plays, contends, is_contended, numbers_read};
+ghost use Rattle.bcv_machine.specs.Laws.{OneStateFollows};
 
 /// probe
 pub fn probe()
-    ensures none { (p : Page) → (b : State) × Plays (contends p ++ is_contended numbers_read) b }
+    ensures one { OneStateFollows }
     ensures two { Unit {0} }
 {}
