@@ -6,10 +6,10 @@ use Rattle.bcv_machine.specs.State.{State}
 use Rattle.bcv_machine.specs.Scripts.{Line, Plays, contends, is_contended, numbers_read, loses_an_answer, is_resolved, goes_on_reading, crashes_later, crashes_in_a_commit, comes_up_without, comes_up_with, id_of, holds_one, holds_two, is_not_held, commits_twice, conflicts, gives_up}
 
 -- a version read is not the last one once there is one more
-rises : (n : ℕ) → n < n + 1
+pub rises : (n : ℕ) → n < n + 1
 rises n = omega arith
 
-both_held : 2 ≤ 2
+pub both_held : 2 ≤ 2
 both_held = omega arith
 
 pub contended : (p : Page) → (b : State) × Plays (contends p ++ is_contended numbers_read) b

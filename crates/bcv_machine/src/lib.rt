@@ -1,11 +1,13 @@
-//! The machine: which replies a client may give to each event, and what they leave of the container and the client.
+//! The machine: which replies a client may give to each event, and what each event leaves of the container and of the
+//! client.
+//!
+//! The definitions stand in `specs/`, one module a part. A step is a relation between sides, the container with one
+//! client; `Step` puts the client back among the others, and `Run` is a list of steps. The functions here do nothing:
+//! their contracts are worked runs, and laws of the machine alone.
 #![tactic(auto)]
 
-ghost use Rattle.std.specs.Prelude.{◌≡◌, ℕ, ◌++◌};
-ghost use Rattle.bcv_machine.specs.Laws.{OneStateFollows};
+mod laws;
+mod runs;
 
-/// probe
-pub fn probe()
-    ensures one { OneStateFollows }
-    ensures two { Unit {0} }
-{}
+pub use laws::one_state_follows;
+pub use runs::{contention_over_copies, crash_around_a_commit, lost_answer_is_resolved, pins_fill_the_cache, second_upload_conflicts};
