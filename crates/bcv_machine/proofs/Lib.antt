@@ -1,3 +1,5 @@
 mod Accepted
+mod Moves
 mod OneState
+mod Publishing
 mod Refused

@@ -16,3 +16,4 @@ pub mod Starting
 pub mod State
 pub mod Step
 pub mod Tick
+pub mod VersionLaw
