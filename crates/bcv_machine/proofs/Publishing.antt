@@ -1,5 +1,5 @@
 -- What a step of a publication does to a side, in few moves: each case of its relations is one of them.
-use Rattle.std.proofs.Common.{◌≡◌, ◌⊎◌, ◌∙◌, ℕ, ◌+◌, zero, suc, Bool, true, false, ◌||◌, List, [], ◌∷◌, ◌++◌, Option, Some, None, refl, sym, ap, inl, inr}
+use Rattle.std.proofs.Common.{◌≡◌, ◌⊎◌, ◌∙◌, ℕ, ◌+◌, zero, suc, Bool, true, false, ◌||◌, List, [], ◌∷◌, ◌++◌, Option, Some, None, refl, sym, ap, subst, inl, inr}
 use Rattle.std.specs.Option.{option_map}
 use Rattle.bcv_base.specs.declared.id.Id16.{Id16}
 use Rattle.bcv_base.specs.declared.outcome.Outcome.{Outcome}
@@ -151,3 +151,36 @@ made : (s : Side) (u : Up) (p : Publication) (v : Version) (r : Reply) (t : Side
 made s u p v (reply.Done k) t rest f h none = Made v f tt h.1 refl none
 made s u p v (reply.Cleaned d more) t rest f h none = Made v f tt h.1 refl none
 made s u p v r t rest f h none = Unfinished v (version_count s.container + 1) f h refl none
+
+stores : (s : Side) (u : Up) (p : Publication) (n : ℕ) (o : Option Version) (r : Reply) (t : Side) (rest : Option Publication) → version_made s.container p ≡ o → n ≡ version_count s.container + 1
+    → Stores (intended_side s u p) u p n o r t → rest ≡ None → PublicationMove s u p (Some n) r t rest
+stores s u p n None r t rest is next h none = absurd h
+stores s u p n (Some v) r t rest is next h none =
+    subst (λ (m : ℕ). PublicationMove s u p (Some m) r t rest) (sym next)
+    (made s u p v r t rest (follows s.container p.id (edit_of s.container p.kind) (last_version s.container) v is) (subst (λ (m : ℕ). Finishes (appended_side s u p v) u p m v r t) next h) none)
+
+appends : (s : Side) (u : Up) (p : Publication) (n : ℕ) (o : Option Version) (r : Reply) (t : Side) (rest : Option Publication) → version_made s.container p ≡ o → n ≡ version_count s.container + 1
+    → Appends (intended_side s u p) p o t → rest ≡ None → PublicationMove s u p (Some n) r t rest
+appends s u p n None r t rest is next h none = absurd h
+appends s u p n (Some v) r t rest is next h none = Lost v (follows s.container p.id (edit_of s.container p.kind) (last_version s.container) v is) h (ap Some next) none
+
+loses_answer : (s : Side) (u : Up) (p : Publication) (n : ℕ) (r : Reply) (t : Side) (rest : Option Publication) → n ≡ version_count s.container + 1 → PutLosesAnswer s u p r t rest → PublicationMove s u p (Some n) r t rest
+loses_answer s u p n (reply.Unknown id) t rest next h = appends s u p n (version_made s.container p) (reply.Unknown id) t rest refl next h.1 h.2
+loses_answer s u p n _ t rest next h = absurd h
+
+puts : (b : Bool) (s : Side) (u : Up) (p : Publication) (read : ℕ) (o : Outcome) (n : Option ℕ) (r : Reply) (t : Side) (rest : Option Publication) → PutsManifest b s u p read o n r t rest → PublicationMove s u p n r t rest
+puts b s u p read outcome.Ok (Some n) r t rest h = stores s u p n (version_made s.container p) r t rest refl h.0.1 h.1 h.2
+puts b s u p read outcome.Ok None r t rest h = puts_nothing b s u p read r t rest h
+puts b s u p read outcome.Fail (Some n) r t rest h = absurd h
+puts b s u p read outcome.Fail None r t rest h = put_fails s u p r t rest h
+puts b s u p read outcome.Lost (Some n) r t rest h = loses_answer s u p n r t rest h.0.1 h.1
+puts b s u p read outcome.Lost None r t rest h = loses_nothing s u p read r t rest h
+
+-- ---- the step
+
+pub steps_publication : (read : Option ℕ) (left : ℕ) (s : Side) (u : Up) (p : Publication) (o : Outcome) (said : Said) (b : Bool) (t : Side) (rest : Option Publication)
+    → StepsPublication read left s u p o said b t rest → PublicationMove s u p said.published said.reply t rest
+steps_publication None left s u p o said b t rest h = subst (λ (n : Option ℕ). PublicationMove s u p n said.reply t rest) (sym h.0) (gets s u p o said.reply t rest h.1)
+steps_publication (Some n) zero s u p o said b t rest h = absurd h
+steps_publication (Some n) (suc zero) s u p o said b t rest h = puts b s u p n o said.published said.reply t rest h
+steps_publication (Some n) (suc (suc left)) s u p o said b t rest h = subst (λ (n : Option ℕ). PublicationMove s u p n said.reply t rest) (sym h.0) (goes s u p o said.reply t rest h.1)

@@ -1,3 +1,4 @@
+pub mod CommitLaw
 pub mod CrashAndUp
 pub mod Gone
 pub mod Laws

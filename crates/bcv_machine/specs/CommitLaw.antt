@@ -1,0 +1,39 @@
+-- Acknowledged commits leave only at a Done, a Resolved or a Revert.
+use Rattle.std.specs.Prelude.{◌≡◌, ◌⊎◌, ℕ, List, [], ◌∷◌, ◌++◌, Option, Some, None}
+use Rattle.bcv_base.specs.Image.{Writes}
+use Rattle.bcv_model.specs.declared.ask.Ask.{Ask}
+use Rattle.bcv_model.specs.declared.ask.Ask.TheVariants as ask
+use Rattle.bcv_model.specs.declared.event.Act.{Act}
+use Rattle.bcv_model.specs.declared.event.Act.TheVariants as act
+use Rattle.bcv_model.specs.declared.event.Event.{Event}
+use Rattle.bcv_model.specs.declared.event.Event.TheVariants as event
+use Rattle.bcv_model.specs.declared.reply.Reply.{Reply}
+use Rattle.bcv_model.specs.declared.reply.Reply.TheVariants as reply
+use Rattle.bcv_model.specs.declared.reply.Said.{Said}
+use Rattle.bcv_machine.specs.State.{State, Client, KeptState, LocalDb, Note, Committing, Reverting, Intending, Finishing, Voiding, client_at, commits_in}
+use Rattle.bcv_machine.specs.Step.{Choice, Next}
+
+-- each database has the commits that it had, and maybe further ones after them
+abbrev pub CommitsStay : KeptState → KeptState → Type 0
+CommitsStay before after = (db : List ℕ) → (more : List Writes) × (commits_in after.locals db ≡ commits_in before.locals db ++ more)
+
+-- the note ends a publication that was made, or gives commits up
+abbrev pub TakesCommits : Option Note → Type 0
+TakesCommits None = ⊥
+TakesCommits (Some (Committing db base w)) = ⊥
+TakesCommits (Some (Reverting db)) = Unit {0}
+TakesCommits (Some (Intending p)) = ⊥
+TakesCommits (Some (Finishing n)) = Unit {0}
+TakesCommits (Some Voiding) = ⊥
+
+-- a client is told that a publication was made, of its own or one that it resolved
+abbrev pub TellsOfPublication : Reply → Type 0
+TellsOfPublication (reply.Done n) = Unit {0}
+TellsOfPublication (reply.Cleaned deleted more) = Unit {0}
+TellsOfPublication (reply.Resolved n) = Unit {0}
+TellsOfPublication _ = ⊥
+
+-- the ask gives commits up, and they are gone
+abbrev pub GivesUp : Ask → Reply → Type 0
+GivesUp (ask.Revert db) reply.Fine = Unit {0}
+GivesUp _ _ = ⊥
