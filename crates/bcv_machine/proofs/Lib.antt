@@ -1,5 +1,7 @@
 mod Accepted
 mod ActMoves
+mod Clients
+mod CommitsStay
 mod Moves
 mod OneState
 mod Publishing

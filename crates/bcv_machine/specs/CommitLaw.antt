@@ -37,3 +37,23 @@ TellsOfPublication _ = ⊥
 abbrev pub GivesUp : Ask → Reply → Type 0
 GivesUp (ask.Revert db) reply.Fine = Unit {0}
 GivesUp _ _ = ⊥
+
+-- the act of a client may take acknowledged commits: it tells of a publication, gives commits up, or brings the client up
+-- where the crash left such a note in flight
+abbrev pub MayTakeCommits : Act → Reply → Option Note → Type 0
+MayTakeCommits (act.Ask q o) r flight = TellsOfPublication r ⊎ GivesUp q r
+MayTakeCommits act.Up r flight = TakesCommits flight
+MayTakeCommits (act.Crash image) r flight = ⊥
+MayTakeCommits (act.Fuse calls image) r flight = ⊥
+MayTakeCommits (act.FailAt calls) r flight = ⊥
+
+-- the event is one of client n, which may take its commits
+abbrev pub MayTakeOf : ℕ → Event → Reply → Option Note → Type 0
+MayTakeOf n (event.Tick k) r flight = ⊥
+MayTakeOf n (event.Of m what) r flight = (m ≡ n) × MayTakeCommits what r flight
+
+-- at every other event the commits of every client stay
+abbrev pub CommitsLeaveOnly : Type 0
+CommitsLeaveOnly =
+    (a b : State) (e : Event) (s : Said) (c : Choice) → Next a e s c b → (n : ℕ) (before after : Client) → client_at a n ≡ Some before → client_at b n ≡ Some after
+    → CommitsStay before.kept after.kept ⊎ MayTakeOf n e s.reply before.flight
