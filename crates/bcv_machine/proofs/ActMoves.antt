@@ -32,8 +32,8 @@ pub record TakesOut (u : Up) (number : ℕ) (job : Job) (rest : Up) : Type 0 whe
 
 pub data ActMove (s : Side) (what : Act) (said : Said) (t : Side) : Type 0 where
   Left : LeavesAll s t → said.published ≡ None → ActMove s what said t
-  Asked : (u : Up) (a : Ask) (o : Outcome) → s.client.up ≡ Some u → what ≡ act.Ask a o → Move s u a said.reply t → said.published ≡ None → ActMove s what said t
-  Stepped : (u rest : Up) (a : Ask) (o : Outcome) (number : ℕ) (job : Job) → s.client.up ≡ Some u → what ≡ act.Ask a o → TakesOut u number job rest → Move s rest a said.reply t → said.published ≡ None → ActMove s what said t
+  Asked : (u : Up) (a : Ask) (o : Outcome) → s.client.up ≡ Some u → what ≡ act.Ask a o → Move false s u a said.reply t → said.published ≡ None → ActMove s what said t
+  Stepped : (u rest : Up) (a : Ask) (o : Outcome) (number : ℕ) (job : Job) → s.client.up ≡ Some u → what ≡ act.Ask a o → TakesOut u number job rest → Move (ends_pending job) s rest a said.reply t → said.published ≡ None → ActMove s what said t
   Published : (u rest : Up) (a : Ask) (o : Outcome) (number : ℕ) (p : Publication) (mid : Side) (back : Option Publication) → s.client.up ≡ Some u → what ≡ act.Ask a o → TakesOut u number (Publishing p) rest
     → PublicationMove s rest p said.published said.reply mid back → t ≡ give_back number back mid → ActMove s what said t
   Crashed : t ≡ crashed s → said.published ≡ None → ActMove s what said t

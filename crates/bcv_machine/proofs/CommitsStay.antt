@@ -19,6 +19,7 @@ use Rattle.bcv_machine.specs.CommitLaw.{CommitsStay, TakesCommits, TellsOfPublic
 use Rattle.bcv_machine.specs.CrashAndUp.{MayBeLeft}
 use Rattle.bcv_machine.specs.ManifestPut.{intent_of, with_intent}
 use Rattle.bcv_machine.specs.Noting.{kept_after, with_commit, noted, Notes, NoteFails}
+use Rattle.bcv_machine.specs.Refusals.{ends_pending}
 use Rattle.bcv_machine.specs.State.{State, Side, Client, KeptState, LocalDb, Note, Committing, Reverting, Intending, Finishing, Voiding, Up, Publication, client_at, commits_in, local_commits, local_name}
 use Rattle.bcv_machine.specs.Step.{Choice, Next, give_back}
 use Rattle.bcv_machine.proofs.Moves as m
@@ -104,21 +105,21 @@ locals_in s = s.client.kept.locals
 failed : (s : Side) (u : Up) (x : Note) (r : Reply) (t : Side) → NoteFails s u x r t → locals_in t ≡ locals_in s
 failed s u x r t h = ap (λ (k : KeptState). k.locals) (fails s u x r t.client h.1)
 
-asked : (s : Side) (u : Up) (a : Ask) (r : Reply) (t : Side) → Move s u a r t → CommitsStay s.client.kept t.client.kept ⊎ (TellsOfPublication r ⊎ GivesUp a r)
-asked s u a r t (m.Stays h) = inl (stay s.client.kept t.client.kept (ap locals_in h))
-asked s u a r t (m.Begun x free h) = inl (stay s.client.kept t.client.kept (ap locals_in h))
-asked s u a r t (m.Held n x held is h) = inl (stay s.client.kept t.client.kept (ap locals_in h))
-asked s u a r t (m.Ended n h) = inl (stay s.client.kept t.client.kept (ap locals_in h))
-asked s u a r t (m.Tasked n job plain h) = inl (stay s.client.kept t.client.kept (ap locals_in h))
-asked s u a r t (m.Started n kind id none h) = inl (stay s.client.kept t.client.kept (ap locals_in h))
-asked s u a r t (m.Asked n none h) = inl (stay s.client.kept t.client.kept (ap locals_in h))
-asked s u a r t (m.Failed x f) = inl (stay s.client.kept t.client.kept (failed s u x r t f))
-asked s u a r t (m.Committed db base c h) =
+asked : (b : Bool) (s : Side) (u : Up) (a : Ask) (r : Reply) (t : Side) → Move b s u a r t → CommitsStay s.client.kept t.client.kept ⊎ (TellsOfPublication r ⊎ GivesUp a r)
+asked b s u a r t (m.Stays h) = inl (stay s.client.kept t.client.kept (ap locals_in h))
+asked b s u a r t (m.Begun x free h) = inl (stay s.client.kept t.client.kept (ap locals_in h))
+asked b s u a r t (m.Held n x held is h) = inl (stay s.client.kept t.client.kept (ap locals_in h))
+asked b s u a r t (m.Ended n h) = inl (stay s.client.kept t.client.kept (ap locals_in h))
+asked b s u a r t (m.Tasked n job plain h) = inl (stay s.client.kept t.client.kept (ap locals_in h))
+asked b s u a r t (m.Started n kind id none h) = inl (stay s.client.kept t.client.kept (ap locals_in h))
+asked b s u a r t (m.Asked n none h) = inl (stay s.client.kept t.client.kept (ap locals_in h))
+asked b s u a r t (m.Failed x f) = inl (stay s.client.kept t.client.kept (failed s u x r t f))
+asked b s u a r t (m.Committed db base c h) =
     inl (λ (k : List ℕ). let more = committed db base c s.client.kept.locals k in (more.0, ap (λ (x : Side). commits_in (locals_in x) k) h ∙ more.1))
-asked s u a r t (m.Reverted db d isa isr h) = inr (inr (subst (λ (x : Ask). GivesUp x r) (sym isa) (subst (λ (x : Reply). GivesUp (ask.Revert db) x) (sym isr) tt)))
-asked s u a r t (m.Polled known h) = inl (stay s.client.kept t.client.kept (ap locals_in h))
-asked s u a r t (m.Resolved n known isr h) = inr (inl (subst TellsOfPublication (sym isr) tt))
-asked s u a r t (m.Voided h) = inl (stay s.client.kept t.client.kept (ap locals_in h))
+asked b s u a r t (m.Reverted db d isa isr h) = inr (inr (subst (λ (x : Ask). GivesUp x r) (sym isa) (subst (λ (x : Reply). GivesUp (ask.Revert db) x) (sym isr) tt)))
+asked b s u a r t (m.Polled known h) = inl (stay s.client.kept t.client.kept (ap locals_in h))
+asked b s u a r t (m.Resolved n known isb isr h) = inr (inl (subst TellsOfPublication (sym isr) tt))
+asked b s u a r t (m.Voided isb h) = inl (stay s.client.kept t.client.kept (ap locals_in h))
 
 voided : (s : Side) (u : Up) (r : Reply) (t : Side) → Voids s u r t → locals_in t ≡ locals_in s
 voided s u r t (inl h) = ap locals_in h
@@ -174,8 +175,8 @@ no_gift s t a r (inr h) = inr (inl h)
 
 acted : (s : Side) (what : Act) (said : Said) (t : Side) → ActMove s what said t → CommitsStay s.client.kept t.client.kept ⊎ MayTakeCommits what said.reply s.client.flight
 acted s what said t (w.Left all is) = inl (stay s.client.kept t.client.kept (ap (λ (k : KeptState). k.locals) all.kept))
-acted s what said t (w.Asked u a o up isa move is) = at_ask s t what a o said.reply isa (asked s u a said.reply t move)
-acted s what said t (w.Stepped u rest a o number job up isa out move is) = at_ask s t what a o said.reply isa (asked s rest a said.reply t move)
+acted s what said t (w.Asked u a o up isa move is) = at_ask s t what a o said.reply isa (asked false s u a said.reply t move)
+acted s what said t (w.Stepped u rest a o number job up isa out move is) = at_ask s t what a o said.reply isa (asked (ends_pending job) s rest a said.reply t move)
 acted s what said t (w.Published u rest a o number q mid back up isa out move h) =
     subst (λ (k : KeptState). CommitsStay s.client.kept k ⊎ MayTakeCommits what said.reply s.client.flight) (sym (ap (λ (x : Side). x.client.kept) h ∙ given_back number back mid))
     (at_ask s mid what a o said.reply isa (no_gift s mid a said.reply (published s rest q said.published said.reply mid back move)))

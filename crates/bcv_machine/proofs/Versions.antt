@@ -10,6 +10,7 @@ use Rattle.bcv_model.specs.declared.reply.Said.{Said}
 use Rattle.bcv_machine.specs.Noting.{NoteFails, noted}
 use Rattle.bcv_machine.specs.ManifestPut.{with_intent, with_version}
 use Rattle.bcv_machine.specs.Run.{Run}
+use Rattle.bcv_machine.specs.Refusals.{ends_pending}
 use Rattle.bcv_machine.specs.State.{State, Container, Side, Client, Up, Note, Voiding, Publication, client_at, version_count, last_version}
 use Rattle.bcv_machine.specs.Step.{Choice, Next, NextOf, give_back}
 use Rattle.bcv_machine.specs.VersionLaw.{Follows, GrowsBy}
@@ -23,20 +24,20 @@ use Rattle.bcv_machine.proofs.ActMoves.{ActMove}
 abbrev versions_in : Side → List Version
 versions_in s = s.container.versions
 
-asked : (s : Side) (u : Up) (a : Ask) (r : Reply) (t : Side) → Move s u a r t → versions_in t ≡ versions_in s
-asked s u a r t (m.Stays h) = ap versions_in h
-asked s u a r t (m.Begun x free h) = ap versions_in h
-asked s u a r t (m.Held n x held is h) = ap versions_in h
-asked s u a r t (m.Ended n h) = ap versions_in h
-asked s u a r t (m.Tasked n job plain h) = ap versions_in h
-asked s u a r t (m.Started n kind id none h) = ap versions_in h
-asked s u a r t (m.Asked n none h) = ap versions_in h
-asked s u a r t (m.Failed x f) = ap (λ (c : Container). c.versions) f.0
-asked s u a r t (m.Committed db base w h) = ap versions_in h
-asked s u a r t (m.Reverted db d isa isr h) = ap versions_in h
-asked s u a r t (m.Polled known h) = ap versions_in h
-asked s u a r t (m.Resolved n known isr h) = ap versions_in h
-asked s u a r t (m.Voided h) = ap versions_in h
+asked : (b : Bool) (s : Side) (u : Up) (a : Ask) (r : Reply) (t : Side) → Move b s u a r t → versions_in t ≡ versions_in s
+asked b s u a r t (m.Stays h) = ap versions_in h
+asked b s u a r t (m.Begun x free h) = ap versions_in h
+asked b s u a r t (m.Held n x held is h) = ap versions_in h
+asked b s u a r t (m.Ended n h) = ap versions_in h
+asked b s u a r t (m.Tasked n job plain h) = ap versions_in h
+asked b s u a r t (m.Started n kind id none h) = ap versions_in h
+asked b s u a r t (m.Asked n none h) = ap versions_in h
+asked b s u a r t (m.Failed x f) = ap (λ (c : Container). c.versions) f.0
+asked b s u a r t (m.Committed db base w h) = ap versions_in h
+asked b s u a r t (m.Reverted db d isa isr h) = ap versions_in h
+asked b s u a r t (m.Polled known h) = ap versions_in h
+asked b s u a r t (m.Resolved n known isb isr h) = ap versions_in h
+asked b s u a r t (m.Voided isb h) = ap versions_in h
 
 voided : (s : Side) (u : Up) (r : Reply) (t : Side) → Voids s u r t → versions_in t ≡ versions_in s
 voided s u r t (inl h) = ap versions_in h
@@ -73,8 +74,8 @@ given_back n (Some q) mid = refl
 
 acted : (s : Side) (what : Act) (said : Said) (t : Side) → ActMove s what said t → GrowsBy said.published s.container t.container
 acted s what said t (w.Left all is) = none said.published s.container t.container is (ap (λ (c : Container). c.versions) all.container)
-acted s what said t (w.Asked u a o up isa move is) = none said.published s.container t.container is (asked s u a said.reply t move)
-acted s what said t (w.Stepped u rest a o number job up isa out move is) = none said.published s.container t.container is (asked s rest a said.reply t move)
+acted s what said t (w.Asked u a o up isa move is) = none said.published s.container t.container is (asked false s u a said.reply t move)
+acted s what said t (w.Stepped u rest a o number job up isa out move is) = none said.published s.container t.container is (asked (ends_pending job) s rest a said.reply t move)
 acted s what said t (w.Published u rest a o number q mid back up isa out move h) =
     subst (λ (c : Container). GrowsBy said.published s.container c) (sym (ap (λ (x : Side). x.container) h ∙ given_back number back mid)) (published s rest q said.published said.reply mid back move)
 acted s what said t (w.Crashed h is) = none said.published s.container t.container is (ap versions_in h)

@@ -13,8 +13,10 @@ pub mod Refusals
 pub mod Resolve
 pub mod Run
 pub mod Scripts
+pub mod SingleLaw
 pub mod Starting
 pub mod State
 pub mod Step
 pub mod Tick
+pub mod TxnLaw
 pub mod VersionLaw

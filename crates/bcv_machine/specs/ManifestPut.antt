@@ -55,8 +55,12 @@ taken_by (Copying a b) = None
 taken_by (Removing a) = None
 taken_by Cleaning = None
 
+-- what is pending from the intent on
+abbrev pub pending_of : Publication → Pending
+pending_of p = record { id = p.id; upload = taken_by p.kind }
+
 abbrev pub intent_of : Publication → Note
-intent_of p = Intending (record { id = p.id; upload = taken_by p.kind })
+intent_of p = Intending (pending_of p)
 
 -- the side once the publication has its intent, which is noted where it has none
 abbrev pub with_intent : Bool → Side → Up → Publication → Side
