@@ -6,4 +6,5 @@ mod Moves
 mod OneState
 mod Publishing
 mod Refused
+mod TxnsStay
 mod Versions
