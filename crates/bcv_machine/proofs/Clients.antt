@@ -1,13 +1,13 @@
 -- Each client of a state after an event: it is as it was, or the event is one of its own.
-use Rattle.std.proofs.Common.{◌≡◌, ◌≢◌, ◌⊎◌, ◌∙◌, ℕ, zero, suc, ◌+◌, ◌-◌, ◌<◌, ◌≤◌, ◌==◌, Bool, true, false, List, [], ◌∷◌, length, Option, Some, None, slice_get, slice_set, if◌then◌else◌, refl, sym, ap, subst, arith, inl, inr}
+use Rattle.std.proofs.Common.{◌≡◌, ◌≢◌, ◌⊎◌, ◌∙◌, ℕ, zero, suc, ◌+◌, ◌-◌, ◌<◌, ◌≤◌, ◌==◌, Bool, true, false, List, [], ◌∷◌, length, Option, Some, None, slice_get, slice_set, get_or, replicate, if◌then◌else◌, refl, sym, ap, subst, arith, inl, inr}
 use Rattle.std.proofs.lemmas.Bool.{false≢true, eqb-true, eq-eqb}
-use Rattle.std.proofs.lemmas.List.{length-set, get_or-set_same, get_or-set_other}
+use Rattle.std.proofs.lemmas.List.{length-replicate, get_or-replicate, length-set, get_or-set_same, get_or-set_other}
 use Rattle.std.proofs.lemmas.Option.{slice_get_within, slice_get-get_or, get_or_from_slice_get}
 use Rattle.bcv_model.specs.declared.event.Act.{Act}
 use Rattle.bcv_model.specs.declared.event.Event.{Event}
 use Rattle.bcv_model.specs.declared.event.Event.TheVariants as event
 use Rattle.bcv_model.specs.declared.reply.Said.{Said}
-use Rattle.bcv_machine.specs.State.{State, Side, Client, client_at, put_back}
+use Rattle.bcv_machine.specs.State.{State, Side, Client, client_at, put_back, first_state, new_client}
 use Rattle.bcv_machine.specs.Step.{Choice, Next, NextOf}
 use Rattle.bcv_machine.proofs.ActMoves as w
 use Rattle.bcv_machine.proofs.ActMoves.{ActMove}
@@ -75,3 +75,28 @@ next_of a b m (Some d) what s c n x y is_d h was is =
 pub became : (a b : State) (e : Event) (s : Said) (c : Choice) → Next a e s c b → (n : ℕ) (x y : Client) → client_at a n ≡ Some x → client_at b n ≡ Some y → Became a e s n x y
 became a b (event.Tick k) s c h n x y was is = Unmoved (same_some y x (sym is ∙ ap (λ (z : State). client_at z n) h.1 ∙ was))
 became a b (event.Of m what) s c h n x y was is = next_of a b m (client_at a m) what s c n x y refl h was is
+
+-- ---- the clients of a state
+
+count_of_next : (a b : State) (m : ℕ) (d : Option Client) (what : Act) (s : Said) (c : Choice) → NextOf a m d what s c b → length b.clients ≡ length a.clients
+count_of_next a b m None what s c h = absurd h
+count_of_next a b m (Some d) what s c h = ap (λ (z : State). length z.clients) h.1.2 ∙ length-set a.clients (m - 1) h.1.0.client
+
+same_count : (a b : State) (e : Event) (s : Said) (c : Choice) → Next a e s c b → length b.clients ≡ length a.clients
+same_count a b (event.Tick k) s c h = ap (λ (z : State). length z.clients) h.1
+same_count a b (event.Of m what) s c h = count_of_next a b m (client_at a m) what s c h
+
+-- a client that is there was there before
+pub was_there : (a b : State) (e : Event) (s : Said) (c : Choice) → Next a e s c b → (n : ℕ) (y : Client) → client_at b n ≡ Some y → (x : Client) × (client_at a n ≡ Some x)
+was_there a b e s c h n y is =
+    let place = place_of b n y is in
+    let inside : n - 1 < length a.clients = subst (λ (k : ℕ). n - 1 < k) (same_count a b e s c h) (slice_get_within b.clients (n - 1) y place.1) in
+    (get_or a.clients (n - 1) y, at_place a n (get_or a.clients (n - 1) y) place.0 (slice_get-get_or a.clients (n - 1) y inside))
+
+-- at first each client is new
+pub first_client : (clients slots n : ℕ) (x : Client) → client_at (first_state clients slots) n ≡ Some x → new_client slots ≡ x
+first_client clients slots n x h =
+    let place = place_of (first_state clients slots) n x h in
+    let inside : n - 1 < length (replicate clients (new_client slots)) = slice_get_within (replicate clients (new_client slots)) (n - 1) x place.1 in
+    sym (get_or-replicate clients (n - 1) (new_client slots) x (subst (λ (k : ℕ). n - 1 < k) (length-replicate clients (new_client slots)) inside))
+    ∙ get_or_from_slice_get (replicate clients (new_client slots)) (n - 1) x x place.1

@@ -6,5 +6,6 @@ mod Moves
 mod OneState
 mod Publishing
 mod Refused
+mod Single
 mod TxnsStay
 mod Versions

@@ -1,4 +1,3 @@
-use Rattle.bcv_machine.proofs.TxnsStay.{images_stay}
 use Rattle.bcv_machine.proofs.OneState.{one_state}
 use Rattle.bcv_machine.proofs.laws.one_state_follows.Goals as goal
 
