@@ -1,5 +1,5 @@
 -- What an act does to a side, in few moves.
-use Rattle.std.proofs.Common.{◌≡◌, ◌⊎◌, ◌∙◌, ℕ, Bool, true, false, ◌&&◌, List, [], ◌∷◌, Option, Some, None, refl, sym, ap, subst, inl, inr}
+use Rattle.std.proofs.Common.{◌≡◌, ℕ, Bool, true, false, ◌&&◌, Option, Some, None, refl, ap}
 use Rattle.bcv_base.specs.declared.outcome.Outcome.{Outcome}
 use Rattle.bcv_model.specs.declared.ask.Ask.{Ask}
 use Rattle.bcv_model.specs.declared.ask.Ask.TheVariants as ask
@@ -10,8 +10,8 @@ use Rattle.bcv_model.specs.declared.reply.Reply.TheVariants as reply
 use Rattle.bcv_model.specs.declared.reply.Said.{Said}
 use Rattle.bcv_machine.specs.CrashAndUp.{Crashes, ComesUp, SetsFuse, SetsFailure, MayBeLeft, crashed, risen}
 use Rattle.bcv_machine.specs.Refusals.{ends_pending}
-use Rattle.bcv_machine.specs.State.{KeptState, Side, Up, Task, Job, Fetching, Polling, Publishing, Resolving, Publication, with_up, with_client, without_task, task_at, txn_at}
-use Rattle.bcv_machine.specs.Step.{Choice, Acts, Asks, ActsUp, ActsDown, AsksOrSteps, AsksQuietly, Steps, StepsOpen, StepsJob, give_back, stepped_task}
+use Rattle.bcv_machine.specs.State.{KeptState, Side, Up, Task, Job, Fetching, Polling, Publishing, Resolving, Publication, without_task, task_at, txn_at}
+use Rattle.bcv_machine.specs.Step.{Choice, Acts, Asks, Steps, StepsOpen, StepsJob, give_back}
 use Rattle.bcv_machine.proofs.Moves.{Move, Stays, asks_quietly, fetch_steps_of, polls, resolves}
 use Rattle.bcv_machine.proofs.Publishing.{PublicationMove, steps_publication}
 
@@ -35,7 +35,7 @@ pub data ActMove (s : Side) (what : Act) (said : Said) (t : Side) : Type 0 where
   Asked : (u : Up) (a : Ask) (o : Outcome) → s.client.up ≡ Some u → what ≡ act.Ask a o → Move false s u a said.reply t → said.published ≡ None → ActMove s what said t
   Stepped : (u rest : Up) (a : Ask) (o : Outcome) (number : ℕ) (job : Job) → s.client.up ≡ Some u → what ≡ act.Ask a o → TakesOut u number job rest → Move (ends_pending job) s rest a said.reply t → said.published ≡ None → ActMove s what said t
   Published : (u rest : Up) (a : Ask) (o : Outcome) (number : ℕ) (p : Publication) (mid : Side) (back : Option Publication) → s.client.up ≡ Some u → what ≡ act.Ask a o → TakesOut u number (Publishing p) rest
-    → PublicationMove s rest p said.published said.reply mid back → t ≡ give_back number back mid → ActMove s what said t
+      → PublicationMove s rest p said.published said.reply mid back → t ≡ give_back number back mid → ActMove s what said t
   Crashed : t ≡ crashed s → said.published ≡ None → ActMove s what said t
   Rose : (k : KeptState) → what ≡ act.Up → MayBeLeft s.client.kept s.client.flight k → t ≡ risen s k → said.published ≡ None → ActMove s what said t
 

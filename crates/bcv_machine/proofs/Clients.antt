@@ -1,5 +1,5 @@
 -- Each client of a state after an event: it is as it was, or the event is one of its own.
-use Rattle.std.proofs.Common.{◌≡◌, ◌≢◌, ◌⊎◌, ◌∙◌, ℕ, zero, suc, ◌+◌, ◌-◌, ◌<◌, ◌≤◌, ◌==◌, Bool, true, false, List, [], ◌∷◌, length, Option, Some, None, slice_get, slice_set, get_or, replicate, if◌then◌else◌, refl, sym, ap, subst, arith, inl, inr}
+use Rattle.std.proofs.Common.{◌≡◌, ◌≢◌, ◌∙◌, ℕ, zero, suc, ◌-◌, ◌<◌, ◌≤◌, ◌==◌, Bool, true, false, List, length, Option, Some, None, slice_get, slice_set, get_or, replicate, if◌then◌else◌, refl, sym, ap, subst, arith}
 use Rattle.std.proofs.lemmas.Bool.{false≢true, eqb-true, eq-eqb}
 use Rattle.std.proofs.lemmas.List.{length-replicate, get_or-replicate, length-set, get_or-set_same, get_or-set_other}
 use Rattle.std.proofs.lemmas.Option.{slice_get_within, slice_get-get_or, get_or_from_slice_get}
@@ -60,9 +60,11 @@ put_there a b m d what s t n x y is_d back move was is =
         let after : client_at (put_back a m t) m ≡ Some t.client = at_place (put_back a m t) m t.client (place_of a m d is_d).0 (set_here a.clients (m - 1) t.client d (place_of a m d is_d).1) in
         Moved what t (ap (λ (k : ℕ). event.Of k what) (sym e)) (subst (λ (z : Client). ActMove (record { container = a.container; client = z }) what s t) (sym same) move)
         (same_some y t.client (sym now ∙ ap (λ (k : ℕ). client_at (put_back a m t) k) e ∙ after))
+
     from_one : (k : ℕ) → (k == 0) ≡ false → 1 ≤ k
     from_one zero e = absurd (false≢true (sym e))
     from_one (suc k) e = omega arith
+
     apart : (n == m) ≡ false → (n - 1) ≢ (m - 1)
     apart e h = absurd (false≢true (sym e ∙ eq-eqb n m (omega (arith, h, from_one n (place_of a n x was).0, from_one m (place_of a m d is_d).0))))
 

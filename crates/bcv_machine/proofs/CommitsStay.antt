@@ -1,5 +1,5 @@
 -- Acknowledged commits leave only at a Done, a Resolved or a Revert.
-use Rattle.std.proofs.Common.{◌≡◌, ◌⊎◌, ◌∙◌, ℕ, ◌+◌, Bool, true, false, List, [], ◌∷◌, ◌++◌, Option, Some, None, if◌then◌else◌, refl, sym, ap, subst, inl, inr, append-nil}
+use Rattle.std.proofs.Common.{◌≡◌, ◌⊎◌, ◌∙◌, ℕ, Bool, true, false, List, [], ◌∷◌, ◌++◌, Option, Some, None, if◌then◌else◌, refl, sym, ap, subst, inl, inr, append-nil}
 use Rattle.std.proofs.lemmas.Bool.{false≢true}
 use Rattle.std.proofs.lemmas.Slice.Eq.{bytes_eq-Decides}
 use Rattle.std.specs.Str.{bytes_eq}
@@ -18,7 +18,7 @@ use Rattle.bcv_model.specs.declared.reply.Said.{Said}
 use Rattle.bcv_machine.specs.CommitLaw.{CommitsStay, TakesCommits, TellsOfPublication, GivesUp, MayTakeCommits, MayTakeOf}
 use Rattle.bcv_machine.specs.CrashAndUp.{MayBeLeft}
 use Rattle.bcv_machine.specs.ManifestPut.{intent_of, with_intent}
-use Rattle.bcv_machine.specs.Noting.{kept_after, with_commit, noted, Notes, NoteFails}
+use Rattle.bcv_machine.specs.Noting.{kept_after, with_commit, Notes, NoteFails}
 use Rattle.bcv_machine.specs.Refusals.{ends_pending}
 use Rattle.bcv_machine.specs.State.{State, Side, Client, KeptState, LocalDb, Note, Committing, Reverting, Intending, Finishing, Voiding, Up, Publication, client_at, commits_in, local_commits, local_name}
 use Rattle.bcv_machine.specs.Step.{Choice, Next, give_back}
@@ -83,9 +83,11 @@ committed name base c ls db =
     let d = with_commit name base c (keyed local_name name ls) in
     let look : keyed local_name db (with_keyed local_name d ls) ≡ (if bytes_eq d.name db then Some d else keyed local_name db ls) = keyed_with d db ls in
     by_test {G = (more : List Writes) × (commits_in (with_keyed local_name d ls) db ≡ commits_in ls db ++ more)} (bytes_eq d.name db)
-    (λ e. let same : name ≡ db = sym (commit_name name base c ls (keyed local_name name ls) refl) ∙ (bytes_eq-Decides d.name db).0 e in
-    (c ∷ [], ap local_commits look ∙ ap (λ (b : Bool). local_commits (if b then Some d else keyed local_name db ls)) e ∙ one_more name base c (keyed local_name name ls)
-    ∙ ap (λ (k : List ℕ). local_commits (keyed local_name k ls) ++ c ∷ []) same))
+    (λ e. let same : name ≡ db = sym (commit_name name base c ls (keyed local_name name ls) refl) ∙ (bytes_eq-Decides d.name db).0 e in (
+      c ∷ [],
+      ap local_commits look ∙ ap (λ (b : Bool). local_commits (if b then Some d else keyed local_name db ls)) e ∙ one_more name base c (keyed local_name name ls)
+          ∙ ap (λ (k : List ℕ). local_commits (keyed local_name k ls) ++ c ∷ []) same,
+    ))
     (λ e. ([], ap local_commits look ∙ ap (λ (b : Bool). local_commits (if b then Some d else keyed local_name db ls)) e ∙ sym (append-nil (commits_in ls db))))
 
 -- ---- what stays

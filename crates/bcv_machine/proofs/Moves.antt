@@ -1,10 +1,9 @@
 -- What an event does to a side, in few moves: each relation of the machine is one of them.
-use Rattle.std.proofs.Common.{◌≡◌, ◌⊎◌, ◌∙◌, ℕ, ◌+◌, zero, suc, Bool, true, false, ◌||◌, List, [], ◌∷◌, ◌++◌, if◌then◌else◌, Option, Some, None, option_and_then, refl, sym, ap, inl, inr}
+use Rattle.std.proofs.Common.{◌≡◌, ◌∙◌, ℕ, Bool, true, false, List, [], ◌∷◌, ◌++◌, if◌then◌else◌, Option, Some, None, option_and_then, refl, sym, ap}
 use Rattle.std.specs.Option.{option_map}
 use Rattle.bcv_base.specs.declared.id.Id16.{Id16}
 use Rattle.bcv_base.specs.declared.outcome.Outcome.{Outcome}
 use Rattle.bcv_base.specs.declared.outcome.Outcome.TheVariants as outcome
-use Rattle.bcv_base.specs.Edits as edits
 use Rattle.bcv_base.specs.Image.{Writes}
 use Rattle.bcv_base.specs.Keyed.{keyed}
 use Rattle.bcv_base.specs.Version.{Database, Version}
@@ -13,20 +12,15 @@ use Rattle.bcv_model.specs.declared.ask.Ask.{Ask}
 use Rattle.bcv_model.specs.declared.ask.Ask.TheVariants as ask
 use Rattle.bcv_model.specs.declared.reply.Reply.{Reply}
 use Rattle.bcv_model.specs.declared.reply.Reply.TheVariants as reply
-use Rattle.bcv_model.specs.declared.reply.Said.{Said}
-use Rattle.bcv_machine.specs.LocalWriting.{NotesLocally, CommitsOver, Commits, RevertsFrom, Reverts, Lists, without_known, with_known}
-use Rattle.bcv_machine.specs.ManifestGet.{GetsManifest}
-use Rattle.bcv_machine.specs.ManifestPut.{Finishes, Stores, Appends, Refuses, IntentFails, NoteFailsAt, PutsNothing, PutFails, PutLosesNothing, PutLosesAnswer, PutsManifest, with_intent, with_version, version_made, version_next, edit_of, intent_of, last_refusal, finished, tried_again}
-use Rattle.bcv_machine.specs.MiddleStep.{GoesOn, requested, after_request, deleted_by, swept_by}
-use Rattle.bcv_machine.specs.Noting.{NoteFails, FaultEnds, noted, kept_after}
+use Rattle.bcv_machine.specs.LocalWriting.{CommitsOver, RevertsFrom, Lists, without_known, with_known}
+use Rattle.bcv_machine.specs.Noting.{NoteFails, noted, kept_after}
 use Rattle.bcv_machine.specs.Poll.{PollsLast, Polls}
-use Rattle.bcv_machine.specs.Reading.{Opens, OpensAs, Begins, ComesAtOnce, FetchesIn, FetchesOf, Fetches, FetchSteps, FetchStepsOf, Shows, Looks, LetsGo, Frees, Closes, Ends, txn_over, begun, with_txn, with_block, holding, freed, without_txn}
+use Rattle.bcv_machine.specs.Reading.{Opens, OpensAs, ComesAtOnce, FetchesIn, FetchesOf, FetchSteps, FetchStepsOf, Shows, LetsGo, Closes, txn_over, begun, with_txn, with_block, holding, freed, without_txn}
 use Rattle.bcv_machine.specs.Refusals.{has_commits, commit_refusal, revert_refusal, UnlessRefused, start_refusal, resolve_refusal}
 use Rattle.bcv_machine.specs.Resolve.{number_from, resolved_up, ResolvesAs, ResolvesPending, Resolves}
-use Rattle.bcv_machine.specs.Starting.{left_at_start, upload_of, StartsAs, Publishes, Starts, StartsPoll, StartsResolve, started}
-use Rattle.bcv_machine.specs.State.{State, Container, Side, Client, Up, View, base_of, view_of, KnownDb, LocalDb, Note, Committing, Reverting, Finishing, Voiding, KeptState, Taken, Pending, Txn, local_name, is_local, block_of_page, known_at, Access, ToRead, ToHold, Kind, Creating, Making, Copying, Removing, Cleaning, CleanupBegun, Job, Fetching, Polling, Publishing, Resolving, Publication, least_free, txn_numbers, with_up, with_client, with_task, txn_at, version_count, last_version}
+use Rattle.bcv_machine.specs.Starting.{left_at_start, upload_of, StartsAs, Publishes, Starts, started}
+use Rattle.bcv_machine.specs.State.{Container, Side, Up, View, base_of, view_of, KnownDb, LocalDb, Note, Committing, Reverting, Finishing, Voiding, KeptState, Taken, Pending, Txn, local_name, is_local, block_of_page, known_at, Access, ToRead, ToHold, Kind, Creating, Making, Copying, Removing, Cleaning, Job, Fetching, Polling, Publishing, Resolving, least_free, txn_numbers, with_up, with_client, with_task, txn_at, last_version}
 use Rattle.bcv_machine.specs.Step.{AsksQuietly}
-use Rattle.bcv_machine.specs.VersionLaw.{Follows}
 
 -- ---- an ask that publishes nothing
 

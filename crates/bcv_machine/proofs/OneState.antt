@@ -1,5 +1,5 @@
 -- What is said of an event decides the state after it: each relation of the machine leaves one side.
-use Rattle.std.proofs.Common.{◌≡◌, ◌∙◌, ℕ, zero, suc, Bool, true, false, ◌||◌, List, [], ◌∷◌, ◌++◌, Option, Some, None, refl, sym, ap}
+use Rattle.std.proofs.Common.{◌≡◌, ◌∙◌, ℕ, zero, suc, Bool, true, false, ◌||◌, List, [], ◌∷◌, ◌++◌, Option, Some, None, sym, ap}
 use Rattle.bcv_base.specs.declared.id.Id16.{Id16}
 use Rattle.bcv_base.specs.declared.outcome.Outcome.{Outcome}
 use Rattle.bcv_base.specs.declared.outcome.Outcome.TheVariants as outcome
@@ -17,18 +17,18 @@ use Rattle.bcv_model.specs.declared.reply.Reply.TheVariants as reply
 use Rattle.bcv_model.specs.declared.reply.Said.{Said}
 use Rattle.bcv_machine.specs.CrashAndUp.{Crashes, SetsFuse, SetsFailure}
 use Rattle.bcv_machine.specs.Laws.{IsNoUpAct, IsNoUp}
-use Rattle.bcv_machine.specs.LocalWriting.{NotesLocally, CommitsOver, Commits, RevertsFrom, Reverts, Lists, without_known, with_known}
+use Rattle.bcv_machine.specs.LocalWriting.{NotesLocally, CommitsOver, RevertsFrom, Lists, without_known, with_known}
 use Rattle.bcv_machine.specs.ManifestGet.{GetsManifest}
 use Rattle.bcv_machine.specs.ManifestPut.{Finishes, Stores, Appends, Refuses, IntentFails, NoteFailsAt, PutsNothing, PutFails, PutLosesNothing, PutLosesAnswer, PutsManifest, with_intent, with_version, version_made, intent_of, last_refusal}
 use Rattle.bcv_machine.specs.MiddleStep.{GoesOn, requested}
 use Rattle.bcv_machine.specs.Noting.{Notes, NoteFails, FaultEnds}
 use Rattle.bcv_machine.specs.Poll.{PollsLast, Polls}
-use Rattle.bcv_machine.specs.Reading.{Opens, OpensAs, Begins, ComesAtOnce, FetchesIn, FetchesOf, Fetches, FetchSteps, FetchStepsOf, Shows, Looks, LetsGo, Frees, Closes, Ends, txn_over}
-use Rattle.bcv_machine.specs.Refusals.{UnlessRefused, ends_pending}
+use Rattle.bcv_machine.specs.Reading.{Opens, OpensAs, ComesAtOnce, FetchesIn, FetchesOf, FetchSteps, FetchStepsOf, Shows, LetsGo, Closes, txn_over}
+use Rattle.bcv_machine.specs.Refusals.{UnlessRefused}
 use Rattle.bcv_machine.specs.Resolve.{ResolvesAs, ResolvesPending, Resolves}
-use Rattle.bcv_machine.specs.Starting.{upload_of, StartsAs, Publishes, Starts, StartsPoll, StartsResolve}
-use Rattle.bcv_machine.specs.State.{State, Container, Side, Client, Up, View, LocalDb, Note, Committing, Reverting, Finishing, Voiding, Pending, Txn, Task, Access, ToRead, ToHold, Kind, Creating, Making, Copying, Removing, Cleaning, Job, Fetching, Polling, Publishing, Resolving, Publication, put_back, client_at, without_task, txn_at, task_at}
-use Rattle.bcv_machine.specs.Step.{Choice, Next, NextOf, Acts, ActsUp, ActsDown, AsksOrSteps, AsksQuietly, Steps, StepsOpen, StepsJob, StepsPublication, give_back, stepped_task}
+use Rattle.bcv_machine.specs.Starting.{upload_of, StartsAs, Publishes, Starts}
+use Rattle.bcv_machine.specs.State.{State, Container, Side, Client, Up, View, LocalDb, Note, Committing, Reverting, Finishing, Voiding, Pending, Txn, Task, Access, ToRead, ToHold, Kind, Creating, Making, Copying, Removing, Cleaning, Job, Fetching, Polling, Publishing, Resolving, Publication, put_back, client_at, txn_at, task_at}
+use Rattle.bcv_machine.specs.Step.{Choice, Next, NextOf, Acts, AsksOrSteps, AsksQuietly, Steps, StepsOpen, StepsJob, StepsPublication, give_back, stepped_task}
 
 both : {A : Type 0} (x y z : A) → x ≡ z → y ≡ z → x ≡ y
 both x y z p q = p ∙ sym q

@@ -1,5 +1,5 @@
 -- What a step of a publication does to a side, in few moves: each case of its relations is one of them.
-use Rattle.std.proofs.Common.{◌≡◌, ◌⊎◌, ◌∙◌, ℕ, ◌+◌, zero, suc, Bool, true, false, ◌||◌, List, [], ◌∷◌, ◌++◌, Option, Some, None, refl, sym, ap, subst, inl, inr}
+use Rattle.std.proofs.Common.{◌≡◌, ◌⊎◌, ℕ, ◌+◌, zero, suc, Bool, true, false, ◌||◌, [], ◌∷◌, ◌++◌, Option, Some, None, refl, sym, ap, subst, inl, inr}
 use Rattle.std.specs.Option.{option_map}
 use Rattle.bcv_base.specs.declared.id.Id16.{Id16}
 use Rattle.bcv_base.specs.declared.outcome.Outcome.{Outcome}
@@ -13,7 +13,7 @@ use Rattle.bcv_machine.specs.ManifestGet.{GetsManifest, after_get}
 use Rattle.bcv_machine.specs.ManifestPut.{Finishes, Stores, Appends, Refuses, IntentFails, NoteFailsAt, PutsNothing, PutFails, PutLosesNothing, PutLosesAnswer, PutsManifest, with_intent, with_version, version_made, version_next, edit_of, intent_of, last_refusal, finished, tried_again}
 use Rattle.bcv_machine.specs.MiddleStep.{GoesOn, requested, after_request, deleted_by, swept_by}
 use Rattle.bcv_machine.specs.Noting.{NoteFails, FaultEnds, noted}
-use Rattle.bcv_machine.specs.State.{Container, Side, Client, Up, Finishing, Voiding, Kind, Creating, Making, Uploading, Copying, Removing, Cleaning, CleanupBegun, Publication, with_up, with_client, version_count, last_version}
+use Rattle.bcv_machine.specs.State.{Container, Side, Up, Finishing, Voiding, Kind, Creating, Making, Uploading, Copying, Removing, Cleaning, CleanupBegun, Publication, with_up, with_client, version_count, last_version}
 use Rattle.bcv_machine.specs.Step.{StepsPublication}
 use Rattle.bcv_machine.specs.VersionLaw.{Follows}
 
@@ -58,9 +58,9 @@ pub data PublicationMove (s : Side) (u : Up) (p : Publication) (n : Option ℕ) 
   Unknown : t ≡ intended_side s u p → n ≡ None → rest ≡ None → PublicationMove s u p n r t rest
   Lost : (v : Version) → Follows (last_version s.container) v → t ≡ appended_side s u p v → n ≡ Some (version_count s.container + 1) → rest ≡ None → PublicationMove s u p n r t rest
   Made : (v : Version) → Follows (last_version s.container) v → IsDone r → t ≡ finished (appended_side s u p v) u (version_count s.container + 1) v
-    → n ≡ Some (version_count s.container + 1) → rest ≡ None → PublicationMove s u p n r t rest
+      → n ≡ Some (version_count s.container + 1) → rest ≡ None → PublicationMove s u p n r t rest
   Unfinished : (v : Version) (number : ℕ) → Follows (last_version s.container) v → NoteFails (appended_side s u p v) u (Finishing number) r t
-    → n ≡ Some (version_count s.container + 1) → rest ≡ None → PublicationMove s u p n r t rest
+      → n ≡ Some (version_count s.container + 1) → rest ≡ None → PublicationMove s u p n r t rest
 
 -- ---- faults
 

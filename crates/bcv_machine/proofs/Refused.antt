@@ -1,7 +1,6 @@
 -- Lines that the machine does not accept: the lines before them lead to one state, and from that state none follows.
-use Rattle.std.proofs.Common.{◌≡◌, ◌≢◌, ◌∙◌, ℕ, ◌≤◌, Bool, true, false, List, [], ◌∷◌, ◌++◌, Option, Some, None, refl, sym, ap, subst, arith, map, length, codes, inl, inr}
+use Rattle.std.proofs.Common.{◌≡◌, ◌∙◌, ℕ, ◌≤◌, Bool, true, false, List, [], ◌∷◌, ◌++◌, Option, Some, None, sym, ap, subst, arith, length, codes, inl, inr}
 use Rattle.std.proofs.lemmas.Bool.{false≢true}
-use Rattle.bcv_base.specs.declared.id.Id16.{Id16}
 use Rattle.bcv_base.specs.Image.{Page}
 use Rattle.bcv_model.specs.declared.ask.Ask.TheVariants as ask
 use Rattle.bcv_model.specs.declared.reply.Reply.{Reply}
@@ -13,8 +12,7 @@ use Rattle.bcv_machine.specs.CrashAndUp.{MayBeLeft}
 use Rattle.bcv_machine.specs.LocalWriting.{local_rows}
 use Rattle.bcv_machine.specs.ManifestGet.{IsFound}
 use Rattle.bcv_machine.specs.Laws.{IsNoUp}
-use Rattle.bcv_machine.specs.Run.{Run}
-use Rattle.bcv_machine.specs.State.{State, Container, KeptState, Committing, Publication, Uploading, new_kept, last_version}
+use Rattle.bcv_machine.specs.State.{State, KeptState, Committing, Publication, Uploading, new_kept, last_version}
 use Rattle.bcv_machine.specs.Step.{Next}
 use Rattle.bcv_machine.specs.Scripts.{Line, PlaysFrom, Plays, id_of, asks, acts, steps, puts, row, one_page, contends, is_contended, numbers_read, loses_an_answer, crashes_later, crashes_in_a_commit, comes_up_without, comes_up_with, holds_one, holds_two, commits_twice, conflicts}
 use Rattle.bcv_machine.proofs.OneState.{one_state}

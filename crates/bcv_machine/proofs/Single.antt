@@ -1,6 +1,6 @@
 -- No two publications of one client run or are pending at a time.
-use Rattle.std.proofs.Common.{◌≡◌, ◌⊎◌, ◌∙◌, ℕ, ◌-◌, ◌==◌, Bool, true, false, not, ◌||◌, List, [], ◌∷◌, ◌++◌, length, replicate, Option, Some, None, is_some, is_none, IsSome, if◌then◌else◌, refl, sym, ap, subst, inl, inr, append-nil}
-use Rattle.std.proofs.lemmas.Bool.{false≢true, eqb-true, eq-eqb}
+use Rattle.std.proofs.Common.{◌≡◌, ◌∙◌, ℕ, ◌==◌, Bool, true, false, not, ◌||◌, List, [], ◌∷◌, ◌++◌, Option, Some, None, is_some, is_none, IsSome, if◌then◌else◌, refl, sym, ap, subst, inl, inr, append-nil}
+use Rattle.std.proofs.lemmas.Bool.{false≢true, eq-eqb}
 use Rattle.std.specs.Prelude.{find, filter}
 use Rattle.std.specs.List.{list_any}
 use Rattle.std.specs.Option.{option_map}
@@ -12,13 +12,13 @@ use Rattle.bcv_model.specs.declared.reply.Reply.{Reply}
 use Rattle.bcv_model.specs.declared.reply.Reply.TheVariants as reply
 use Rattle.bcv_model.specs.declared.reply.Said.{Said}
 use Rattle.bcv_machine.specs.ManifestPut.{intent_of, pending_of, taken_by, with_intent}
-use Rattle.bcv_machine.specs.Noting.{kept_after, Notes, NoteFails}
-use Rattle.bcv_machine.specs.Reading.{is_job_of, without_txn}
+use Rattle.bcv_machine.specs.Noting.{kept_after, Notes}
+use Rattle.bcv_machine.specs.Reading.{is_job_of}
 use Rattle.bcv_machine.specs.Refusals.{ends_pending, is_busy, first_reason, has_all_tasks, then_kind, start_refusal, resolve_refusal}
 use Rattle.bcv_machine.specs.Run.{Run}
 use Rattle.bcv_machine.specs.SingleLaw.{busy_jobs, FitsJob, FitsPending, IsSingleUp, IsSingle}
 use Rattle.bcv_machine.specs.Starting.{started}
-use Rattle.bcv_machine.specs.State.{State, Container, Side, Client, Up, Task, Job, Fetching, Polling, Publishing, Resolving, Kind, Note, Finishing, Voiding, Pending, KeptState, Publication, new_up, first_state, client_at, task_at, without_task, with_task}
+use Rattle.bcv_machine.specs.State.{State, Side, Client, Up, Task, Job, Fetching, Polling, Publishing, Resolving, Kind, Note, Finishing, Voiding, Pending, KeptState, Publication, first_state, client_at, with_task}
 use Rattle.bcv_machine.specs.Step.{Choice, Next, give_back}
 use Rattle.bcv_machine.proofs.Moves as m
 use Rattle.bcv_machine.proofs.Moves.{Move, IsPlain, IsFetch, IsPoll}
@@ -99,8 +99,7 @@ taken_out n (t ∷ ts) x pending h e fits =
     (λ f. let one : t ≡ x = (let some : Some t ≡ Some x = sym (ap (λ (c : Bool). if c then Some t else numbered n ts) f) ∙ h in cc) in
     let busy : ends_pending t.job ≡ true = ap (λ (z : Task). ends_pending z.job) one ∙ e in
     let first : FitsPending (t.job ∷ busy_jobs ts) pending = subst (λ (b : Bool). FitsPending (with_job b t.job (busy_jobs ts)) pending) busy fits in
-    let alone : busy_jobs ts ≡ [] = no_second t.job (busy_jobs ts) pending first in
-    (
+    let alone : busy_jobs ts ≡ [] = no_second t.job (busy_jobs ts) pending first in (
       subst (λ (z : Task). FitsJob z.job pending) one (subst (λ (js : List Job). FitsPending (t.job ∷ js) pending) alone first),
       ap (λ (b : Bool). busy_jobs (if not b then t ∷ without x.number ts else without x.number ts)) (eq-eqb t.number x.number (ap (λ (z : Task). z.number) one)) ∙ none_left (λ (y : Task). not (y.number == x.number)) ts alone,
     ))
@@ -109,12 +108,11 @@ taken_out n (t ∷ ts) x pending h e fits =
     (λ b. let second = found_busy n ts x later e in
     let first : FitsPending (t.job ∷ busy_jobs ts) pending = subst (λ (c : Bool). FitsPending (with_job c t.job (busy_jobs ts)) pending) b fits in
     absurd (two second.0 second.1 (sym second.2 ∙ no_second t.job (busy_jobs ts) pending first)))
-    (λ b. let rest = taken_out n ts x pending later e (subst (λ (c : Bool). FitsPending (with_job c t.job (busy_jobs ts)) pending) b fits) in
-    (
+    (λ b. let rest = taken_out n ts x pending later e (subst (λ (c : Bool). FitsPending (with_job c t.job (busy_jobs ts)) pending) b fits) in (
       rest.0,
       by_test {G = busy_jobs (without x.number (t ∷ ts)) ≡ []} (t.number == x.number)
-      (λ g. ap (λ (c : Bool). busy_jobs (if not c then t ∷ without x.number ts else without x.number ts)) g ∙ rest.1)
-      (λ g. ap (λ (c : Bool). busy_jobs (if not c then t ∷ without x.number ts else without x.number ts)) g ∙ ap (λ (c : Bool). with_job c t.job (busy_jobs (without x.number ts))) b ∙ rest.1),
+          (λ g. ap (λ (c : Bool). busy_jobs (if not c then t ∷ without x.number ts else without x.number ts)) g ∙ rest.1)
+          (λ g. ap (λ (c : Bool). busy_jobs (if not c then t ∷ without x.number ts else without x.number ts)) g ∙ ap (λ (c : Bool). with_job c t.job (busy_jobs (without x.number ts))) b ∙ rest.1),
     )))
   where
     two : (j : Job) (js : List Job) → j ∷ js ≡ [] → ⊥

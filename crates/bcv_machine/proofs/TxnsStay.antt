@@ -1,6 +1,6 @@
 -- A transaction's image never changes after its begin.
-use Rattle.std.proofs.Common.{◌≡◌, ◌⊎◌, ◌∙◌, ℕ, ◌==◌, Bool, true, false, not, List, [], ◌∷◌, ◌++◌, map, Option, Some, None, if◌then◌else◌, refl, sym, ap, subst, inl, inr}
-use Rattle.std.proofs.lemmas.Bool.{false≢true, eqb-true, eq-eqb}
+use Rattle.std.proofs.Common.{◌≡◌, ◌∙◌, ℕ, ◌==◌, Bool, true, false, not, List, [], ◌∷◌, ◌++◌, map, Option, Some, None, if◌then◌else◌, refl, sym, ap, subst, inl, inr}
+use Rattle.std.proofs.lemmas.Bool.{false≢true, eqb-true}
 use Rattle.std.specs.Prelude.{find, filter}
 use Rattle.std.specs.Option.{option_map}
 use Rattle.bcv_model.specs.declared.ask.Ask.{Ask}
@@ -10,10 +10,10 @@ use Rattle.bcv_model.specs.declared.reply.Reply.{Reply}
 use Rattle.bcv_model.specs.declared.reply.Reply.TheVariants as reply
 use Rattle.bcv_model.specs.declared.reply.Said.{Said}
 use Rattle.bcv_machine.specs.ManifestPut.{intent_of, with_intent}
-use Rattle.bcv_machine.specs.Noting.{Notes, NoteFails}
+use Rattle.bcv_machine.specs.Noting.{Notes}
 use Rattle.bcv_machine.specs.Reading.{with_txn}
 use Rattle.bcv_machine.specs.Refusals.{ends_pending}
-use Rattle.bcv_machine.specs.State.{State, Side, Client, Up, Txn, Note, Finishing, Voiding, Publication, Publishing, with_task, new_up, client_at, txn_at, txn_image}
+use Rattle.bcv_machine.specs.State.{State, Side, Client, Up, Txn, Note, Finishing, Voiding, Publication, Publishing, with_task, new_up, client_at}
 use Rattle.bcv_machine.specs.Step.{Choice, Next, give_back}
 use Rattle.bcv_machine.specs.TxnLaw.{IsSameTxn, TxnsStay}
 use Rattle.bcv_machine.proofs.Moves as m

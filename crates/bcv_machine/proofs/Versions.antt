@@ -1,5 +1,5 @@
 -- Versions only grow, each by one edit of the one before.
-use Rattle.std.proofs.Common.{◌≡◌, ◌⊎◌, ◌∙◌, ℕ, ◌+◌, Bool, true, false, List, [], ◌∷◌, ◌++◌, Option, Some, None, refl, sym, ap, subst, inl, inr, append_assoc, append-nil}
+use Rattle.std.proofs.Common.{◌≡◌, ◌∙◌, ℕ, ◌+◌, Bool, true, false, List, [], ◌∷◌, ◌++◌, Option, Some, None, refl, sym, ap, subst, inl, inr, append_assoc, append-nil}
 use Rattle.bcv_base.specs.Version.{Version}
 use Rattle.bcv_model.specs.declared.ask.Ask.{Ask}
 use Rattle.bcv_model.specs.declared.event.Act.{Act}
@@ -7,11 +7,10 @@ use Rattle.bcv_model.specs.declared.event.Event.{Event}
 use Rattle.bcv_model.specs.declared.event.Event.TheVariants as event
 use Rattle.bcv_model.specs.declared.reply.Reply.{Reply}
 use Rattle.bcv_model.specs.declared.reply.Said.{Said}
-use Rattle.bcv_machine.specs.Noting.{NoteFails, noted}
-use Rattle.bcv_machine.specs.ManifestPut.{with_intent, with_version}
+use Rattle.bcv_machine.specs.ManifestPut.{with_intent}
 use Rattle.bcv_machine.specs.Run.{Run}
 use Rattle.bcv_machine.specs.Refusals.{ends_pending}
-use Rattle.bcv_machine.specs.State.{State, Container, Side, Client, Up, Note, Voiding, Publication, client_at, version_count, last_version}
+use Rattle.bcv_machine.specs.State.{State, Container, Side, Client, Up, Publication, client_at, version_count, last_version}
 use Rattle.bcv_machine.specs.Step.{Choice, Next, NextOf, give_back}
 use Rattle.bcv_machine.specs.VersionLaw.{Follows, GrowsBy}
 use Rattle.bcv_machine.proofs.Moves as m

@@ -1,5 +1,5 @@
 -- Acknowledged commits leave only at a Done, a Resolved or a Revert.
-use Rattle.std.specs.Prelude.{◌≡◌, ◌⊎◌, ℕ, List, [], ◌∷◌, ◌++◌, Option, Some, None}
+use Rattle.std.specs.Prelude.{◌≡◌, ◌⊎◌, ℕ, List, ◌++◌, Option, Some, None}
 use Rattle.bcv_base.specs.Image.{Writes}
 use Rattle.bcv_model.specs.declared.ask.Ask.{Ask}
 use Rattle.bcv_model.specs.declared.ask.Ask.TheVariants as ask
@@ -10,7 +10,7 @@ use Rattle.bcv_model.specs.declared.event.Event.TheVariants as event
 use Rattle.bcv_model.specs.declared.reply.Reply.{Reply}
 use Rattle.bcv_model.specs.declared.reply.Reply.TheVariants as reply
 use Rattle.bcv_model.specs.declared.reply.Said.{Said}
-use Rattle.bcv_machine.specs.State.{State, Client, KeptState, LocalDb, Note, Committing, Reverting, Intending, Finishing, Voiding, client_at, commits_in}
+use Rattle.bcv_machine.specs.State.{State, Client, KeptState, Note, Committing, Reverting, Intending, Finishing, Voiding, client_at, commits_in}
 use Rattle.bcv_machine.specs.Step.{Choice, Next}
 
 -- each database has the commits that it had, and maybe further ones after them

@@ -1,10 +1,10 @@
 -- A client's crash, what a crash may leave, and how the client comes up; and what is set to strike its disk.
-use Rattle.std.specs.Prelude.{◌≡◌, ◌⊎◌, Bool, true, false, Option, Some, None, is_some}
+use Rattle.std.specs.Prelude.{◌≡◌, ◌⊎◌, true, false, Option, Some, None, is_some}
 use Rattle.bcv_model.specs.declared.reply.Reply.{Reply}
 use Rattle.bcv_model.specs.declared.reply.Reply.TheVariants as reply
 use Rattle.bcv_machine.specs.LocalWriting.{local_rows}
 use Rattle.bcv_machine.specs.Noting.{kept_after}
-use Rattle.bcv_machine.specs.State.{KeptState, Note, Client, Side, new_up, with_client}
+use Rattle.bcv_machine.specs.State.{KeptState, Note, Side, new_up, with_client}
 
 -- ---- down
 

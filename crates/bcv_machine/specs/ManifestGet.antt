@@ -1,5 +1,5 @@
 -- The manifest's get of a publication.
-use Rattle.std.specs.Prelude.{◌≡◌, ℕ, ◌+◌, ◌-◌, ◌*◌, ◌^◌, ◌<◌, ◌≤◌, ◌⊎◌, ◌==◌, Bool, true, false, List, [], ◌∷◌, length, Option, Some, None, is_some, is_none, nat_lt, nat_le, if◌then◌else◌}
+use Rattle.std.specs.Prelude.{◌≡◌, ℕ, ◌+◌, ◌-◌, ◌*◌, ◌^◌, ◌<◌, ◌≤◌, ◌⊎◌, ◌==◌, false, List, [], ◌∷◌, length, Option, Some, None, is_some, is_none, nat_lt, nat_le, if◌then◌else◌}
 use Rattle.bcv_base.specs.declared.outcome.Outcome.{Outcome}
 use Rattle.bcv_base.specs.declared.outcome.Outcome.TheVariants as outcome
 use Rattle.bcv_base.specs.Ids.{id_eq}
@@ -19,11 +19,11 @@ use Rattle.bcv_machine.specs.State.{Container, Kind, Creating, Making, Uploading
 abbrev pub new_fault : ℕ → List Database → List ℕ → ℕ → ℕ → Option Reply
 new_fault block dbs name page_size pages =
     first_reason (
-      (is_some (keyed the_name name dbs), reply.Exists)
-      ∷ (nat_lt block page_size, reply.PageTooLarge)
-      ∷ (nat_lt 65536 (blocks_needed block page_size pages), reply.TooLarge)
-      ∷ (nat_le 1024 (length dbs), reply.TooManyDatabases)
-      ∷ []
+    (is_some (keyed the_name name dbs), reply.Exists)
+    ∷ (nat_lt block page_size, reply.PageTooLarge)
+    ∷ (nat_lt 65536 (blocks_needed block page_size pages), reply.TooLarge)
+    ∷ (nat_le 1024 (length dbs), reply.TooManyDatabases)
+    ∷ []
     )
 
 -- the database that an upload is over has another tag now

@@ -10,7 +10,7 @@ use Rattle.bcv_base.specs.Version.{Database, Version}
 use Rattle.bcv_model.specs.declared.reply.Reply.{Reply}
 use Rattle.bcv_model.specs.declared.reply.Reply.TheVariants as reply
 use Rattle.bcv_machine.specs.Noting.{kept_after, noted, NoteFails, FaultEnds}
-use Rattle.bcv_machine.specs.State.{Container, Kind, Creating, Making, Uploading, Copying, Removing, Cleaning, CleanupBegun, Publication, Pending, Taken, Note, Intending, Finishing, Up, Client, Side, version_count, last_version, database_at, known_at, with_client, with_up}
+use Rattle.bcv_machine.specs.State.{Container, Kind, Creating, Making, Uploading, Copying, Removing, Cleaning, CleanupBegun, Publication, Pending, Taken, Note, Intending, Finishing, Up, Side, version_count, last_version, database_at, known_at, with_client, with_up}
 
 -- ---- what is published
 

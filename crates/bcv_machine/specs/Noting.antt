@@ -15,7 +15,7 @@ use Rattle.bcv_model.specs.declared.note.Note.TheVariants as note
 use Rattle.bcv_model.specs.declared.reply.Reply.{Reply}
 use Rattle.bcv_model.specs.declared.reply.Reply.TheVariants as reply
 use Rattle.bcv_model.specs.Notes.{note_size}
-use Rattle.bcv_machine.specs.State.{Container, KeptState, LocalDb, Taken, Pending, Note, Committing, Reverting, Intending, Finishing, Voiding, Up, Client, Side, Publication, database_at, local_name, commits_in, with_client, with_up}
+use Rattle.bcv_machine.specs.State.{Container, KeptState, LocalDb, Taken, Pending, Note, Committing, Reverting, Intending, Finishing, Voiding, Up, Client, Side, database_at, local_name, commits_in, with_client, with_up}
 
 -- ---- what is kept after a note
 

@@ -1,5 +1,5 @@
 -- Transactions: begin, read, hold, look, free and end, and the step of a task that fetches a page.
-use Rattle.std.specs.Prelude.{◌≡◌, ℕ, ◌≤◌, Bool, true, false, not, ◌&&◌, ◌==◌, List, [], ◌∷◌, ◌++◌, map, Option, Some, None, if◌then◌else◌, option_and_then, filter}
+use Rattle.std.specs.Prelude.{◌≡◌, ℕ, ◌≤◌, Bool, true, false, not, ◌==◌, List, [], ◌∷◌, ◌++◌, map, Option, Some, None, if◌then◌else◌, option_and_then, filter}
 use Rattle.std.specs.Option.{option_map}
 use Rattle.bcv_base.specs.declared.outcome.Outcome.{Outcome}
 use Rattle.bcv_base.specs.declared.outcome.Outcome.TheVariants as outcome
@@ -9,7 +9,7 @@ use Rattle.bcv_model.specs.declared.reply.Reply.{Reply}
 use Rattle.bcv_model.specs.declared.reply.Reply.TheVariants as reply
 use Rattle.bcv_machine.specs.Gone.{MayBeGone}
 use Rattle.bcv_machine.specs.Refusals.{UnlessRefused, has_all_tasks, begin_refusal, page_refusal, look_refusal, free_refusal, end_refusal}
-use Rattle.bcv_machine.specs.State.{Container, KeptState, Txn, Access, ToRead, ToHold, Job, Fetching, Polling, Publishing, Resolving, Task, Up, View, Side, view_of, base_of, with_up, least_free, has_number, txn_numbers, task_numbers, txn_at, with_task, txn_image, is_local, block_of_page, holds, is_at_hand, held_pairs, slot_count}
+use Rattle.bcv_machine.specs.State.{Container, Txn, Access, ToRead, ToHold, Job, Fetching, Polling, Publishing, Resolving, Task, Up, View, Side, view_of, base_of, with_up, least_free, has_number, txn_numbers, task_numbers, txn_at, with_task, txn_image, is_local, block_of_page, is_at_hand, held_pairs, slot_count}
 
 -- ---- begin
 

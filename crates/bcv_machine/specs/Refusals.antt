@@ -1,7 +1,6 @@
 -- Refusals that the client's own state decides: the first reason that holds, in the order in which they are tested.
-use Rattle.std.specs.Prelude.{◌≡◌, ℕ, Bool, true, false, not, ◌&&◌, ◌||◌, ◌==◌, List, [], ◌∷◌, length, Option, Some, None, is_some, is_none, nat_lt, nat_le, if◌then◌else◌, option_and_then}
+use Rattle.std.specs.Prelude.{◌≡◌, ℕ, Bool, true, false, not, ◌||◌, ◌==◌, List, [], ◌∷◌, length, Option, Some, None, is_some, is_none, nat_lt, nat_le, if◌then◌else◌, option_and_then}
 use Rattle.std.specs.List.{list_any}
-use Rattle.std.specs.Option.{option_map}
 use Rattle.bcv_base.specs.Image.{Writes}
 use Rattle.bcv_base.specs.Keyed.{keyed}
 use Rattle.bcv_base.specs.ManifestRules.{blocks_needed}
@@ -9,7 +8,7 @@ use Rattle.bcv_base.specs.Version.{Database}
 use Rattle.bcv_base.specs.Views.{is_commit}
 use Rattle.bcv_model.specs.declared.reply.Reply.{Reply}
 use Rattle.bcv_model.specs.declared.reply.Reply.TheVariants as reply
-use Rattle.bcv_machine.specs.State.{Container, KeptState, Kind, Creating, Making, Uploading, Copying, Removing, Cleaning, Job, Fetching, Polling, Publishing, Resolving, Task, Txn, Up, View, Side, local_name, commits_in, view_of, base_of, txn_at, txn_size, is_local, holds}
+use Rattle.bcv_machine.specs.State.{Container, KeptState, Kind, Creating, Making, Uploading, Copying, Removing, Cleaning, Job, Fetching, Polling, Publishing, Resolving, Task, Txn, Up, View, Side, local_name, view_of, base_of, txn_at, txn_size, is_local, holds}
 
 -- the first reply whose reason holds
 abbrev pub first_reason : List (Bool × Reply) → Option Reply

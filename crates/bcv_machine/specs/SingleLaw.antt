@@ -1,5 +1,5 @@
 -- No two publications of one client run or are pending at a time.
-use Rattle.std.specs.Prelude.{◌≡◌, ℕ, Bool, true, false, List, [], ◌∷◌, Option, Some, None, IsSome, if◌then◌else◌}
+use Rattle.std.specs.Prelude.{◌≡◌, ℕ, List, [], ◌∷◌, Option, Some, None, IsSome, if◌then◌else◌}
 use Rattle.bcv_model.specs.declared.event.Event.{Event}
 use Rattle.bcv_model.specs.declared.reply.Said.{Said}
 use Rattle.bcv_machine.specs.ManifestPut.{pending_of}

@@ -1,5 +1,5 @@
 -- One step of the machine: an event, what is said of it, and the state after it.
-use Rattle.std.specs.Prelude.{◌≡◌, ℕ, zero, suc, Bool, true, false, ◌&&◌, List, [], ◌∷◌, Option, Some, None, not, if◌then◌else◌}
+use Rattle.std.specs.Prelude.{◌≡◌, ℕ, zero, suc, Bool, true, false, ◌&&◌, List, [], ◌∷◌, Option, Some, None, if◌then◌else◌}
 use Rattle.std.specs.List.{flat_map}
 use Rattle.std.specs.Option.{option_map}
 use Rattle.bcv_base.specs.declared.id.Id16.{Id16}
@@ -25,7 +25,7 @@ use Rattle.bcv_machine.specs.Reading.{Begins, Fetches, FetchStepsOf, Looks, Free
 use Rattle.bcv_machine.specs.Refusals.{ends_pending}
 use Rattle.bcv_machine.specs.Resolve.{Resolves}
 use Rattle.bcv_machine.specs.Starting.{Starts, StartsPoll, StartsResolve, upload_of}
-use Rattle.bcv_machine.specs.State.{State, Side, Client, Up, Task, Job, Fetching, Polling, Publishing, Resolving, Access, ToRead, ToHold, Publication, Creating, Making, Copying, Removing, Cleaning, client_at, client_ids, put_back, with_client, with_up, with_task, without_task, task_at, txn_at}
+use Rattle.bcv_machine.specs.State.{State, Side, Client, Up, Task, Job, Fetching, Polling, Publishing, Resolving, ToRead, ToHold, Publication, Creating, Making, Copying, Removing, Cleaning, client_at, client_ids, put_back, with_client, with_up, with_task, without_task, task_at, txn_at}
 use Rattle.bcv_machine.specs.Tick.{ticked}
 
 -- what the script leaves open: the id that the event draws, and which of two notes failed

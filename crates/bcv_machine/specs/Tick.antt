@@ -1,5 +1,5 @@
 -- Time goes on.
-use Rattle.std.specs.Prelude.{◌≡◌, ℕ, ◌+◌, ◌-◌, ◌^◌, min}
+use Rattle.std.specs.Prelude.{ℕ, ◌+◌, ◌-◌, ◌^◌, min}
 use Rattle.bcv_machine.specs.State.{Container, State}
 
 -- the moment, so many seconds later; it stands still at the end of a u64

@@ -1,6 +1,5 @@
 -- A transaction's image never changes after its begin.
-use Rattle.std.specs.Prelude.{◌≡◌, ℕ, List, Option, Some, None}
-use Rattle.bcv_base.specs.Image.{Page}
+use Rattle.std.specs.Prelude.{◌≡◌, ℕ, Some}
 use Rattle.bcv_model.specs.declared.event.Event.{Event}
 use Rattle.bcv_model.specs.declared.reply.Said.{Said}
 use Rattle.bcv_machine.specs.State.{State, Client, Up, Txn, client_at, txn_at, txn_image}

@@ -6,7 +6,7 @@ use Rattle.bcv_base.specs.Version.{Version}
 use Rattle.bcv_model.specs.declared.event.Event.{Event}
 use Rattle.bcv_model.specs.declared.reply.Said.{Said}
 use Rattle.bcv_machine.specs.Run.{Run}
-use Rattle.bcv_machine.specs.State.{State, Container, version_count, last_version, first_state}
+use Rattle.bcv_machine.specs.State.{State, Container, version_count, last_version}
 use Rattle.bcv_machine.specs.Step.{Choice, Next}
 
 -- a version is the first one, or an edit of the one before it
