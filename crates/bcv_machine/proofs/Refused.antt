@@ -1,5 +1,5 @@
 -- Lines that the machine does not accept: the lines before them lead to one state, and from that state none follows.
-use Rattle.std.proofs.Common.{◌≡◌, ◌∙◌, ℕ, ◌≤◌, Bool, true, false, List, [], ◌∷◌, ◌++◌, Option, Some, None, sym, ap, subst, arith, length, codes, inl, inr}
+use Rattle.std.proofs.Common.{◌≡◌, ◌∙◌, ℕ, ◌+◌, ◌≤◌, ◌⊎◌, Bool, true, false, List, [], ◌∷◌, ◌++◌, Option, Some, None, sym, ap, subst, arith, length, codes, inl, inr}
 use Rattle.std.proofs.lemmas.Bool.{false≢true}
 use Rattle.bcv_base.specs.Image.{Page}
 use Rattle.bcv_model.specs.declared.ask.Ask.TheVariants as ask
@@ -14,9 +14,9 @@ use Rattle.bcv_machine.specs.ManifestGet.{IsFound}
 use Rattle.bcv_machine.specs.Laws.{IsNoUp}
 use Rattle.bcv_machine.specs.State.{State, KeptState, Committing, Publication, Uploading, new_kept, last_version}
 use Rattle.bcv_machine.specs.Step.{Next}
-use Rattle.bcv_machine.specs.Scripts.{Line, PlaysFrom, Plays, id_of, asks, acts, steps, puts, row, one_page, contends, is_contended, numbers_read, loses_an_answer, crashes_later, crashes_in_a_commit, comes_up_without, comes_up_with, holds_one, holds_two, commits_twice, conflicts}
+use Rattle.bcv_machine.specs.Scripts.{Line, PlaysFrom, Plays, id_of, asks, acts, steps, puts, row, one_page, contends, is_contended, numbers_read, loses_an_answer, crashes_later, crashes_in_a_commit, comes_up_without, comes_up_with, holds_one, holds_two, commits_twice, conflicts, replaces, reads_again, is_gone}
 use Rattle.bcv_machine.proofs.OneState.{one_state}
-use Rattle.bcv_machine.proofs.Accepted.{contends_run, lost_run, crashed_run, fused_run, held_run, freed_run, twice_run}
+use Rattle.bcv_machine.proofs.Accepted.{contends_run, lost_run, crashed_run, fused_run, held_run, freed_run, twice_run, early_run, asked_run}
 
 -- ---- one state after lines without an `up`
 
@@ -142,3 +142,26 @@ pub other_tags : (mine theirs : ℕ) (b : State) → Plays (commits_twice ++ con
 other_tags mine theirs b h =
     let n = (only commits_twice (steps 2 (reply.Conflict (id_of mine) (id_of theirs))) twice_run no_up_twice b h).1.1.2.1.0 in
     sym (ap ids_in (subst (λ (r : Reply). IsFound twice_run.0.container (second_upload) (last_version twice_run.0.container) r) (sym n.2.0) n.1))
+
+-- ---- a cleanup
+
+no_up_early : AreNoUps (replaces 99)
+no_up_early = (tt, (tt, (tt, (tt, (tt, (tt, (tt, (tt, (tt, (tt, (tt, (tt, (tt, (tt, (tt, (tt, tt))))))))))))))))
+
+within_retention : (0 + 100 ≤ 99) ⊎ ((0 + 100 ≤ 99) ⊎ ((0 + 100 ≤ 99) ⊎ ⊥)) → ⊥
+within_retention (inl h) = absurd (omega (arith, h))
+within_retention (inr (inl h)) = absurd (omega (arith, h))
+within_retention (inr (inr (inl h))) = absurd (omega (arith, h))
+within_retention (inr (inr (inr h))) = h
+
+pub too_early : (left : ℕ) (b : State) → Plays (replaces 99 ++ steps 1 (reply.Working left) ∷ []) b → ⊥
+too_early left b h = within_retention (only (replaces 99) (steps 1 (reply.Working left)) early_run no_up_early b h).1.1.2.1.1.2
+
+no_up_asked : AreNoUps (replaces 99 ++ reads_again)
+no_up_asked = (tt, (tt, (tt, (tt, (tt, (tt, (tt, (tt, (tt, (tt, (tt, (tt, (tt, (tt, (tt, (tt, (tt, tt)))))))))))))))))
+
+none_deleted : (n : ℕ) → ◌≡◌ {A = Option ℕ} None (Some n) → ⊥
+none_deleted n h = absurd (cc)
+
+pub not_gone_yet : (b : State) → Plays ((replaces 99 ++ reads_again) ++ is_gone) b → ⊥
+not_gone_yet b h = let gone = (only (replaces 99 ++ reads_again) (steps 2 reply.Gone) asked_run no_up_asked b h).1.1.1.1 in none_deleted gone.deleted gone.is_greatest

@@ -1,5 +1,5 @@
 -- Worked scripts of two clients, with blocks of 1,024 bytes, pages of 512 and two slots: the events, and what is said of each.
-use Rattle.std.specs.Prelude.{ℕ, List, [], ◌∷◌, ◌++◌, map, replicate, Option, Some, None, false, codes}
+use Rattle.std.specs.Prelude.{true, ℕ, List, [], ◌∷◌, ◌++◌, map, replicate, Option, Some, None, false, codes}
 use Rattle.bcv_base.specs.declared.id.Id16.{Id16}
 use Rattle.bcv_base.specs.declared.outcome.Outcome.{Outcome}
 use Rattle.bcv_base.specs.declared.outcome.Outcome.TheVariants as outcome
@@ -195,3 +195,48 @@ abbrev pub gives_up : List Line
 gives_up =
     asks 2 (ask.Revert (codes "a")) reply.Fine ∷ []
     ++ polls 2 3 ++ (asks 2 (ask.Begin (codes "a")) (reply.Txn 1) ∷ asks 2 (ask.Read 1 1) (reply.Task 1 1) ∷ steps 2 (reply.Page (page 187)) ∷ [])
+
+-- ---- a cleanup
+
+-- client 2's transaction is over version 2, client 1 publishes version 3 in place of it, and so many seconds pass
+abbrev pub replaces : ℕ → List Line
+replaces seconds =
+    begins (page 170) ++ polls 2 2 ++ (asks 2 (ask.Begin (codes "a")) (reply.Txn 1) ∷ []) ++ uploads 1 187 6 3
+    ++ (record { event = event.Tick seconds; said = says reply.Fine; choice = draws 0 } ∷ starts 1 ask.Cleanup 8 66 ∷ [])
+
+-- within the retention nothing is there to be cleaned up
+abbrev pub finds_nothing : List Line
+finds_nothing = steps 1 (reply.Cleaned 0 false) ∷ []
+
+-- after it the old block is deleted, and client 2's read finds it gone
+abbrev pub cleans_up : List Line
+cleans_up = steps 1 (reply.Working 2) ∷ steps 1 (reply.Working 1) ∷ steps_with outcome.Ok 1 (Some 4) (reply.Cleaned 1 false) ∷ []
+
+abbrev pub reads_again : List Line
+reads_again = asks 2 (ask.Read 1 1) (reply.Task 1 1) ∷ []
+
+abbrev pub is_gone : List Line
+is_gone = steps 2 reply.Gone ∷ []
+
+-- ---- a crash around a publication
+
+-- client 1 is about to put the manifest of an upload, and its fuse is set
+abbrev pub is_about_to_put : ℕ → ℕ → List Line
+is_about_to_put calls image =
+    begins (page 170)
+    ++ (asks 1 (ask.Commit (codes "a") (one_page 187)) reply.Fine ∷ starts 1 (ask.Upload (codes "a")) 6 4 ∷ steps 1 (reply.Working 3) ∷ steps 1 (reply.Working 1)
+    ∷ acts 1 (act.Fuse calls image) reply.Fine ∷ [])
+
+-- it crashes with the version published, or before the put
+abbrev pub crashes_after_put : List Line
+crashes_after_put = steps_with outcome.Ok 1 (Some 3) reply.Crashed ∷ []
+
+abbrev pub crashes_before_put : List Line
+crashes_before_put = steps 1 reply.Crashed ∷ []
+
+-- it comes up with its commit and the publication pending, and resolves
+abbrev pub comes_up_pending : List Line
+comes_up_pending = acts 1 act.Up (reply.UpAgain (row (codes "a") 2 1 1 ∷ []) true) ∷ asks 1 ask.Resolve (reply.Task 1 1) ∷ []
+
+abbrev pub is_voided : List Line
+is_voided = steps 1 reply.Voided ∷ []

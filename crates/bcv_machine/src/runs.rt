@@ -3,7 +3,7 @@ ghost use Rattle.bcv_base.specs.Image.{Page};
 ghost use Rattle.bcv_model.specs.declared.ask.Ask.TheVariants as ask;
 ghost use Rattle.bcv_model.specs.declared.reply.Reply.TheVariants as reply;
 ghost use Rattle.bcv_machine.specs.State.{State};
-ghost use Rattle.bcv_machine.specs.Scripts.{Plays, asks, steps, puts, id_of, contends, is_contended, numbers_read, loses_an_answer, is_resolved, goes_on_reading, crashes_later, crashes_in_a_commit, comes_up_without, comes_up_with, holds_one, holds_two, is_not_held, commits_twice, conflicts, gives_up};
+ghost use Rattle.bcv_machine.specs.Scripts.{Plays, asks, steps, puts, id_of, contends, is_contended, numbers_read, loses_an_answer, is_resolved, goes_on_reading, crashes_later, crashes_in_a_commit, comes_up_without, comes_up_with, holds_one, holds_two, is_not_held, commits_twice, conflicts, gives_up, replaces, finds_nothing, cleans_up, reads_again, is_gone, is_about_to_put, crashes_after_put, crashes_before_put, comes_up_pending, is_voided};
 
 /// Two clients contend: client 1 copies a database, and before each of its eight puts client 2 publishes another copy.
 /// The eighth put answers the eight numbers that were read, in order. No other numbers, no further try and no version
@@ -48,4 +48,24 @@ pub fn second_upload_conflicts()
     ensures tags { (mine theirs : ℕ) (b : State) → Plays (commits_twice ++ conflicts mine theirs) b
         → (id_of mine).0 ++ (id_of theirs).0 ≡ (id_of 4).0 ++ (id_of 6).0 }
     ensures no_merge { (left : ℕ) (b : State) → Plays (commits_twice ++ steps 2 (reply.Working left) ∷ []) b → ⊥ }
+{}
+
+/// A cleanup deletes a replaced block once the retention since a version has passed, and not a second before; a
+/// transaction of another client over that version then finds the block gone, and not before the cleanup.
+pub fn cleanup_after_the_retention()
+    ensures too_early { (b : State) × Plays (replaces 99 ++ finds_nothing) b }
+    ensures not_earlier { (left : ℕ) (b : State) → Plays (replaces 99 ++ steps 1 (reply.Working left) ∷ []) b → ⊥ }
+    ensures accepted { (b : State) × Plays (replaces 100 ++ cleans_up ++ reads_again ++ is_gone) b }
+    ensures not_gone_yet { (b : State) → Plays ((replaces 99 ++ reads_again) ++ is_gone) b → ⊥ }
+{}
+
+/// A client whose fuse burns around an upload's put comes up with the publication pending, or not: after the put it
+/// resolves it, or the crash left its done; before the put it is voided, or there never was an intent.
+pub fn crash_around_a_publication()
+    ensures resolved { (calls image : ℕ)
+        → (b : State) × Plays (is_about_to_put calls image ++ crashes_after_put ++ comes_up_pending ++ is_resolved) b }
+    ensures done { (calls image : ℕ) → (b : State) × Plays (is_about_to_put calls image ++ crashes_after_put ++ comes_up_without) b }
+    ensures voided { (calls image : ℕ)
+        → (b : State) × Plays (is_about_to_put calls image ++ crashes_before_put ++ comes_up_pending ++ is_voided) b }
+    ensures not_intended { (calls image : ℕ) → (b : State) × Plays (is_about_to_put calls image ++ crashes_before_put ++ comes_up_with 1) b }
 {}
