@@ -1,10 +1,11 @@
 -- Acknowledged commits leave only at a Done, a Resolved or a Revert.
-use Rattle.std.proofs.Common.{◌≡◌, ◌⊎◌, ◌∙◌, ℕ, Bool, true, false, List, [], ◌∷◌, ◌++◌, Option, Some, None, if◌then◌else◌, refl, sym, ap, subst, inl, inr, append-nil}
+use Rattle.std.proofs.Common.{◌≡◌, ◌⊎◌, ◌∙◌, ℕ, ◌+◌, Bool, true, false, List, [], ◌∷◌, ◌++◌, Option, Some, None, if◌then◌else◌, refl, sym, ap, subst, inl, inr, append-nil}
 use Rattle.std.proofs.lemmas.Bool.{false≢true}
 use Rattle.std.proofs.lemmas.Slice.Eq.{bytes_eq-Decides}
 use Rattle.std.specs.Str.{bytes_eq}
 use Rattle.bcv_base.specs.declared.outcome.Outcome.{Outcome}
 use Rattle.bcv_base.specs.Image.{Writes}
+use Rattle.bcv_base.specs.Version.{Version}
 use Rattle.bcv_base.specs.Keyed.{keyed, with_keyed, comes_before}
 use Rattle.bcv_model.specs.declared.ask.Ask.{Ask}
 use Rattle.bcv_model.specs.declared.ask.Ask.TheVariants as ask
@@ -17,17 +18,20 @@ use Rattle.bcv_model.specs.declared.reply.Reply.TheVariants as reply
 use Rattle.bcv_model.specs.declared.reply.Said.{Said}
 use Rattle.bcv_machine.specs.CommitLaw.{CommitsStay, TakesCommits, TellsOfPublication, GivesUp, MayTakeCommits, MayTakeOf}
 use Rattle.bcv_machine.specs.CrashAndUp.{MayBeLeft}
-use Rattle.bcv_machine.specs.ManifestPut.{intent_of, with_intent}
-use Rattle.bcv_machine.specs.Noting.{kept_after, with_commit, Notes, NoteFails}
+use Rattle.bcv_machine.specs.ManifestPut.{intent_of, with_intent, taken_by, done_reply, finished}
+use Rattle.bcv_machine.specs.Noting.{kept_after, kept_published, locals_published, with_commit, Notes, NoteFails}
 use Rattle.bcv_machine.specs.Refusals.{ends_pending}
-use Rattle.bcv_machine.specs.State.{State, Side, Client, KeptState, LocalDb, Note, Committing, Reverting, Intending, Finishing, Voiding, Up, Publication, client_at, commits_in, local_commits, local_name}
+use Rattle.bcv_machine.specs.Run.{Run}
+use Rattle.bcv_machine.specs.SingleLaw.{FitsJob, IsSingleUp, IsSingle}
+use Rattle.bcv_machine.specs.State.{State, first_state, Side, Client, KeptState, LocalDb, Note, Committing, Reverting, Intending, Finishing, Voiding, Up, Kind, Creating, Making, Uploading, Copying, Removing, Cleaning, Publication, Publishing, Pending, Taken, client_at, version_count, commits_in, local_commits, local_name}
 use Rattle.bcv_machine.specs.Step.{Choice, Next, give_back}
 use Rattle.bcv_machine.proofs.Moves as m
 use Rattle.bcv_machine.proofs.Moves.{Move}
 use Rattle.bcv_machine.proofs.Publishing as p
-use Rattle.bcv_machine.proofs.Publishing.{PublicationMove, Voids, IsDone, intended_side, appended_side}
+use Rattle.bcv_machine.proofs.Publishing.{PublicationMove, Voids, intended_side, appended_side}
 use Rattle.bcv_machine.proofs.ActMoves as w
 use Rattle.bcv_machine.proofs.ActMoves.{ActMove}
+use Rattle.bcv_machine.proofs.Single.{always_single, busy_out, intended_pending}
 use Rattle.bcv_machine.proofs.Clients.{by_test, Became, Unmoved, Moved, became}
 
 -- ---- one more commit
@@ -131,22 +135,34 @@ intended : (i : Bool) (s : Side) (u : Up) (q : Publication) → locals_in (with_
 intended true s u q = refl
 intended false s u q = refl
 
-tells : (r : Reply) → IsDone r → TellsOfPublication r
-tells (reply.Done n) d = tt
-tells (reply.Cleaned deleted more) d = tt
-tells _ d = absurd d
+-- only a cleanup's answer is no Done, and a cleanup takes no commits
+done_tells : (q : Publication) (kind : Kind) (n : ℕ) (more : Bool) (r : Reply) → done_reply q kind n more ≡ r → (taken_by kind ≡ None) ⊎ TellsOfPublication r
+done_tells q (Creating block retention) n more r h = inr (subst TellsOfPublication h tt)
+done_tells q (Making d page_size pages) n more r h = inr (subst TellsOfPublication h tt)
+done_tells q (Uploading d base commits) n more r h = inr (subst TellsOfPublication h tt)
+done_tells q (Copying x y) n more r h = inr (subst TellsOfPublication h tt)
+done_tells q (Removing x) n more r h = inr (subst TellsOfPublication h tt)
+done_tells q Cleaning n more r h = inl refl
 
-published : (s : Side) (u : Up) (q : Publication) (n : Option ℕ) (r : Reply) (t : Side) (rest : Option Publication) → PublicationMove s u q n r t rest → CommitsStay s.client.kept t.client.kept ⊎ TellsOfPublication r
-published s u q n r t rest (p.Goes x g but like h is back) = inl (stay s.client.kept t.client.kept (ap locals_in h ∙ ap (λ (c : Client). c.kept.locals) but.client))
-published s u q n r t rest (p.EndsPlainly x but h is back) = inl (stay s.client.kept t.client.kept (ap locals_in h ∙ ap (λ (c : Client). c.kept.locals) but.client))
-published s u q n r t rest (p.EndsVoided x but v is back) = inl (stay s.client.kept t.client.kept (voided x u r t v ∙ ap (λ (c : Client). c.kept.locals) but.client))
-published s u q n r t rest (p.Unintended f is back) = inl (stay s.client.kept t.client.kept (failed s u (intent_of q) r t f))
-published s u q n r t rest (p.Again g like h is back) = inl (stay s.client.kept t.client.kept (ap locals_in h ∙ intended q.intended s u q))
-published s u q n r t rest (p.Refused v is back) = inl (stay s.client.kept t.client.kept (voided (intended_side s u q) u r t v ∙ intended q.intended s u q))
-published s u q n r t rest (p.Unknown h is back) = inl (stay s.client.kept t.client.kept (ap locals_in h ∙ intended q.intended s u q))
-published s u q n r t rest (p.Lost v f h is back) = inl (stay s.client.kept t.client.kept (ap locals_in h ∙ intended q.intended s u q))
-published s u q n r t rest (p.Made v f done h is back) = inr (tells r done)
-published s u q n r t rest (p.Unfinished v k f fail is back) = inl (stay s.client.kept t.client.kept (failed (appended_side s u q v) u (Finishing k) r t fail ∙ intended q.intended s u q))
+made : (s : Side) (u : Up) (q : Publication) (n : ℕ) (v : Version) (r : Reply) (t : Side) → FitsJob (Publishing q) s.client.kept.pending → t ≡ finished (appended_side s u q v) u n v
+    → (taken_by q.kind ≡ None) ⊎ TellsOfPublication r → CommitsStay s.client.kept t.client.kept ⊎ TellsOfPublication r
+made s u q n v r t fits h (inl none) =
+    let k : KeptState = (appended_side s u q v).client.kept in
+    inl (stay s.client.kept t.client.kept (ap locals_in h ∙ ap (λ (o : Option Pending). (kept_published n o k).locals) (intended_pending q.intended s u q fits)
+    ∙ ap (λ (x : Option Taken). locals_published n x k.locals) none ∙ intended q.intended s u q))
+made s u q n v r t fits h (inr told) = inr told
+
+published : (s : Side) (u : Up) (q : Publication) (n : Option ℕ) (r : Reply) (t : Side) (rest : Option Publication) → FitsJob (Publishing q) s.client.kept.pending → PublicationMove s u q n r t rest → CommitsStay s.client.kept t.client.kept ⊎ TellsOfPublication r
+published s u q n r t rest fits (p.Goes x g but like h is back) = inl (stay s.client.kept t.client.kept (ap locals_in h ∙ ap (λ (c : Client). c.kept.locals) but.client))
+published s u q n r t rest fits (p.EndsPlainly x but h is back) = inl (stay s.client.kept t.client.kept (ap locals_in h ∙ ap (λ (c : Client). c.kept.locals) but.client))
+published s u q n r t rest fits (p.EndsVoided x but v is back) = inl (stay s.client.kept t.client.kept (voided x u r t v ∙ ap (λ (c : Client). c.kept.locals) but.client))
+published s u q n r t rest fits (p.Unintended f is back) = inl (stay s.client.kept t.client.kept (failed s u (intent_of q) r t f))
+published s u q n r t rest fits (p.Again g like h is back) = inl (stay s.client.kept t.client.kept (ap locals_in h ∙ intended q.intended s u q))
+published s u q n r t rest fits (p.Refused v is back) = inl (stay s.client.kept t.client.kept (voided (intended_side s u q) u r t v ∙ intended q.intended s u q))
+published s u q n r t rest fits (p.Unknown h is back) = inl (stay s.client.kept t.client.kept (ap locals_in h ∙ intended q.intended s u q))
+published s u q n r t rest fits (p.Lost v f h is back) = inl (stay s.client.kept t.client.kept (ap locals_in h ∙ intended q.intended s u q))
+published s u q n r t rest fits (p.Made v f done h is back) = made s u q (version_count s.container + 1) v r t fits h (done_tells q q.kind (version_count s.container + 1) done.0 r done.1)
+published s u q n r t rest fits (p.Unfinished v k f fail is back) = inl (stay s.client.kept t.client.kept (failed (appended_side s u q v) u (Finishing k) r t fail ∙ intended q.intended s u q))
 
 given_back : (n : ℕ) (back : Option Publication) (mid : Side) → (give_back n back mid).client.kept ≡ mid.client.kept
 given_back n None mid = refl
@@ -175,15 +191,15 @@ no_gift : (s t : Side) (a : Ask) (r : Reply) → CommitsStay s.client.kept t.cli
 no_gift s t a r (inl h) = inl h
 no_gift s t a r (inr h) = inr (inl h)
 
-acted : (s : Side) (what : Act) (said : Said) (t : Side) → ActMove s what said t → CommitsStay s.client.kept t.client.kept ⊎ MayTakeCommits what said.reply s.client.flight
-acted s what said t (w.Left all is) = inl (stay s.client.kept t.client.kept (ap (λ (k : KeptState). k.locals) all.kept))
-acted s what said t (w.Asked u a o up isa move is) = at_ask s t what a o said.reply isa (asked false s u a said.reply t move)
-acted s what said t (w.Stepped u rest a o number job up isa out move is) = at_ask s t what a o said.reply isa (asked (ends_pending job) s rest a said.reply t move)
-acted s what said t (w.Published u rest a o number q mid back up isa out move h) =
+acted : (s : Side) (what : Act) (said : Said) (t : Side) → IsSingle s.client → ActMove s what said t → CommitsStay s.client.kept t.client.kept ⊎ MayTakeCommits what said.reply s.client.flight
+acted s what said t single (w.Left all is) = inl (stay s.client.kept t.client.kept (ap (λ (k : KeptState). k.locals) all.kept))
+acted s what said t single (w.Asked u a o up isa move is) = at_ask s t what a o said.reply isa (asked false s u a said.reply t move)
+acted s what said t single (w.Stepped u rest a o number job up isa out move is) = at_ask s t what a o said.reply isa (asked (ends_pending job) s rest a said.reply t move)
+acted s what said t single (w.Published u rest a o number q mid back up isa out move h) =
     subst (λ (k : KeptState). CommitsStay s.client.kept k ⊎ MayTakeCommits what said.reply s.client.flight) (sym (ap (λ (x : Side). x.client.kept) h ∙ given_back number back mid))
-    (at_ask s mid what a o said.reply isa (no_gift s mid a said.reply (published s rest q said.published said.reply mid back move)))
-acted s what said t (w.Crashed h is) = inl (stay s.client.kept t.client.kept (ap locals_in h))
-acted s what said t (w.Rose k isa left h is) =
+    (at_ask s mid what a o said.reply isa (no_gift s mid a said.reply (published s rest q said.published said.reply mid back (busy_out u number (Publishing q) rest s.client.kept.pending out refl (subst (λ (o : Option Up). IsSingleUp o s.client.kept.pending) up single)).0 move)))
+acted s what said t single (w.Crashed h is) = inl (stay s.client.kept t.client.kept (ap locals_in h))
+acted s what said t single (w.Rose k isa left h is) =
     subst (λ (l : KeptState). CommitsStay s.client.kept l ⊎ MayTakeCommits what said.reply s.client.flight) (sym (ap (λ (x : Side). x.client.kept) h))
     (subst (λ (x : Act). CommitsStay s.client.kept k ⊎ MayTakeCommits x said.reply s.client.flight) (sym isa) (risen_with s.client.kept s.client.flight k left))
 
@@ -193,13 +209,18 @@ of_this : (n : ℕ) (what : Act) (r : Reply) (flight : Option Note) (P : Type 0)
 of_this n what r flight P (inl h) = inl h
 of_this n what r flight P (inr h) = inr (refl, h)
 
-of_client : (a : State) (e : Event) (s : Said) (n : ℕ) (x y : Client) → Became a e s n x y → CommitsStay x.kept y.kept ⊎ MayTakeOf n e s.reply x.flight
-of_client a e s n x y (Unmoved h) = inl (stay x.kept y.kept (ap (λ (c : Client). c.kept.locals) h))
-of_client a e s n x y (Moved what t is move h) =
+of_client : (a : State) (e : Event) (s : Said) (n : ℕ) (x y : Client) → Became a e s n x y → IsSingle x → CommitsStay x.kept y.kept ⊎ MayTakeOf n e s.reply x.flight
+of_client a e s n x y (Unmoved h) single = inl (stay x.kept y.kept (ap (λ (c : Client). c.kept.locals) h))
+of_client a e s n x y (Moved what t is move h) single =
     let side : Side = record { container = a.container; client = x } in
     subst (λ (z : Client). CommitsStay x.kept z.kept ⊎ MayTakeOf n e s.reply x.flight) (sym h)
-    (subst (λ (f : Event). CommitsStay x.kept t.client.kept ⊎ MayTakeOf n f s.reply x.flight) (sym is) (of_this n what s.reply x.flight (CommitsStay x.kept t.client.kept) (acted side what s t move)))
+    (subst (λ (f : Event). CommitsStay x.kept t.client.kept ⊎ MayTakeOf n f s.reply x.flight) (sym is) (of_this n what s.reply x.flight (CommitsStay x.kept t.client.kept) (acted side what s t single move)))
 
-pub commits_leave_only : (a b : State) (e : Event) (s : Said) (c : Choice) → Next a e s c b → (n : ℕ) (before after : Client) → client_at a n ≡ Some before → client_at b n ≡ Some after
+pub commits_leave_only : (a b : State) (e : Event) (s : Said) (c : Choice) → Next a e s c b → (n : ℕ) (before after : Client) → client_at a n ≡ Some before → client_at b n ≡ Some after → IsSingle before
     → CommitsStay before.kept after.kept ⊎ MayTakeOf n e s.reply before.flight
-commits_leave_only a b e s c h n before after was is = of_client a e s n before after (became a b e s c h n before after was is)
+commits_leave_only a b e s c h n before after was is single = of_client a e s n before after (became a b e s c h n before after was is) single
+
+pub commits_leave_only_in_runs : (clients slots : ℕ) (a b : State) (es : List Event) (ss : List Said) (cs : List Choice) (e : Event) (s : Said) (c : Choice) → Run (first_state clients slots) es ss cs a
+    → Next a e s c b → (n : ℕ) (before after : Client) → client_at a n ≡ Some before → client_at b n ≡ Some after → CommitsStay before.kept after.kept ⊎ MayTakeOf n e s.reply before.flight
+commits_leave_only_in_runs clients slots a b es ss cs e s c run h n before after was is =
+    commits_leave_only a b e s c h n before after was is (always_single clients slots a es ss cs run n before was)

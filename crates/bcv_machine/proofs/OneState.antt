@@ -16,7 +16,7 @@ use Rattle.bcv_model.specs.declared.reply.Reply.{Reply}
 use Rattle.bcv_model.specs.declared.reply.Reply.TheVariants as reply
 use Rattle.bcv_model.specs.declared.reply.Said.{Said}
 use Rattle.bcv_machine.specs.CrashAndUp.{Crashes, SetsFuse, SetsFailure}
-use Rattle.bcv_machine.specs.Laws.{IsNoUpAct, IsNoUp}
+use Rattle.bcv_machine.specs.OneStateLaw.{IsNoUpAct, IsNoUp}
 use Rattle.bcv_machine.specs.LocalWriting.{NotesLocally, CommitsOver, RevertsFrom, Lists, without_known, with_known}
 use Rattle.bcv_machine.specs.ManifestGet.{GetsManifest}
 use Rattle.bcv_machine.specs.ManifestPut.{Finishes, Stores, Appends, Refuses, IntentFails, NoteFailsAt, PutsNothing, PutFails, PutLosesNothing, PutLosesAnswer, PutsManifest, with_intent, with_version, version_made, intent_of, last_refusal}

@@ -10,7 +10,7 @@ use Rattle.bcv_model.specs.declared.reply.Reply.{Reply}
 use Rattle.bcv_model.specs.declared.reply.Reply.TheVariants as reply
 use Rattle.bcv_model.specs.declared.reply.Said.{Said}
 use Rattle.bcv_machine.specs.ManifestGet.{GetsManifest, after_get}
-use Rattle.bcv_machine.specs.ManifestPut.{Finishes, Stores, Appends, Refuses, IntentFails, NoteFailsAt, PutsNothing, PutFails, PutLosesNothing, PutLosesAnswer, PutsManifest, with_intent, with_version, version_made, version_next, edit_of, intent_of, last_refusal, finished, tried_again}
+use Rattle.bcv_machine.specs.ManifestPut.{done_reply, Finishes, Stores, Appends, Refuses, IntentFails, NoteFailsAt, PutsNothing, PutFails, PutLosesNothing, PutLosesAnswer, PutsManifest, with_intent, with_version, version_made, version_next, edit_of, intent_of, last_refusal, finished, tried_again}
 use Rattle.bcv_machine.specs.MiddleStep.{GoesOn, requested, after_request, deleted_by, swept_by}
 use Rattle.bcv_machine.specs.Noting.{NoteFails, FaultEnds, noted}
 use Rattle.bcv_machine.specs.State.{Container, Side, Up, Finishing, Voiding, Kind, Creating, Making, Uploading, Copying, Removing, Cleaning, CleanupBegun, Publication, with_up, with_client, version_count, last_version}
@@ -31,10 +31,8 @@ pub record GoesOnAs (intended : Bool) (p q : Publication) : Type 0 where
   pub is_intended : q.intended ≡ intended
 
 -- the answer of a publication that was made
-abbrev pub IsDone : Reply → Type 0
-IsDone (reply.Done n) = Unit {0}
-IsDone (reply.Cleaned deleted more) = Unit {0}
-IsDone _ = ⊥
+abbrev pub IsDone : Publication → ℕ → Reply → Type 0
+IsDone p n r = (more : Bool) × (done_reply p p.kind n more ≡ r)
 
 -- void is noted, or fails
 abbrev pub Voids : Side → Up → Reply → Side → Type 0
@@ -57,7 +55,7 @@ pub data PublicationMove (s : Side) (u : Up) (p : Publication) (n : Option ℕ) 
   Refused : Voids (intended_side s u p) u r t → n ≡ None → rest ≡ None → PublicationMove s u p n r t rest
   Unknown : t ≡ intended_side s u p → n ≡ None → rest ≡ None → PublicationMove s u p n r t rest
   Lost : (v : Version) → Follows (last_version s.container) v → t ≡ appended_side s u p v → n ≡ Some (version_count s.container + 1) → rest ≡ None → PublicationMove s u p n r t rest
-  Made : (v : Version) → Follows (last_version s.container) v → IsDone r → t ≡ finished (appended_side s u p v) u (version_count s.container + 1) v
+  Made : (v : Version) → Follows (last_version s.container) v → IsDone p (version_count s.container + 1) r → t ≡ finished (appended_side s u p v) u (version_count s.container + 1) v
       → n ≡ Some (version_count s.container + 1) → rest ≡ None → PublicationMove s u p n r t rest
   Unfinished : (v : Version) (number : ℕ) → Follows (last_version s.container) v → NoteFails (appended_side s u p v) u (Finishing number) r t
       → n ≡ Some (version_count s.container + 1) → rest ≡ None → PublicationMove s u p n r t rest
@@ -148,8 +146,8 @@ follows c id e (Some last) v h = edited last id c.moment e v h
 
 made : (s : Side) (u : Up) (p : Publication) (v : Version) (r : Reply) (t : Side) (rest : Option Publication) → Follows (last_version s.container) v
     → Finishes (appended_side s u p v) u p (version_count s.container + 1) v r t → rest ≡ None → PublicationMove s u p (Some (version_count s.container + 1)) r t rest
-made s u p v (reply.Done k) t rest f h none = Made v f tt h.1 refl none
-made s u p v (reply.Cleaned d more) t rest f h none = Made v f tt h.1 refl none
+made s u p v (reply.Done k) t rest f h none = Made v f (false, h.0) h.1 refl none
+made s u p v (reply.Cleaned d more) t rest f h none = Made v f (more, h.0) h.1 refl none
 made s u p v r t rest f h none = Unfinished v (version_count s.container + 1) f h refl none
 
 stores : (s : Side) (u : Up) (p : Publication) (n : ℕ) (o : Option Version) (r : Reply) (t : Side) (rest : Option Publication) → version_made s.container p ≡ o → n ≡ version_count s.container + 1

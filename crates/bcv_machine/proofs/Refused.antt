@@ -11,7 +11,7 @@ use Rattle.bcv_model.specs.Commits.{writes_of}
 use Rattle.bcv_machine.specs.CrashAndUp.{MayBeLeft}
 use Rattle.bcv_machine.specs.LocalWriting.{local_rows}
 use Rattle.bcv_machine.specs.ManifestGet.{IsFound}
-use Rattle.bcv_machine.specs.Laws.{IsNoUp}
+use Rattle.bcv_machine.specs.OneStateLaw.{IsNoUp}
 use Rattle.bcv_machine.specs.State.{State, KeptState, Committing, Publication, Uploading, new_kept, last_version}
 use Rattle.bcv_machine.specs.Step.{Next}
 use Rattle.bcv_machine.specs.Scripts.{Line, PlaysFrom, Plays, id_of, asks, acts, steps, puts, row, one_page, contends, is_contended, numbers_read, loses_an_answer, crashes_later, crashes_in_a_commit, comes_up_without, comes_up_with, holds_one, holds_two, commits_twice, conflicts, replaces, reads_again, is_gone}

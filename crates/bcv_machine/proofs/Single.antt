@@ -250,7 +250,7 @@ intended_up true s u q = refl
 intended_up false s u q = refl
 
 -- the intent makes the publication the pending one
-intended_pending : (i : Bool) (s : Side) (u : Up) (q : Publication) → s.client.kept.pending ≡ (if i then Some (pending_of q) else None) → (with_intent i s u q).client.kept.pending ≡ Some (pending_of q)
+pub intended_pending : (i : Bool) (s : Side) (u : Up) (q : Publication) → s.client.kept.pending ≡ (if i then Some (pending_of q) else None) → (with_intent i s u q).client.kept.pending ≡ Some (pending_of q)
 intended_pending true s u q h = h
 intended_pending false s u q h = refl
 
@@ -294,7 +294,7 @@ published s u q k r t back n alone fits (p.Unfinished v j f fail is gone) = not_
 fits_out : (u : Up) (number : ℕ) (job : Job) (rest : Up) (pending : Option Pending) → TakesOut u number job rest → FitsPending (busy_jobs u.tasks) pending → FitsPending (busy_jobs rest.tasks) pending
 fits_out u number job rest pending out fits = subst (λ (v : Up). FitsPending (busy_jobs v.tasks) pending) (sym out.left) (fits_left (λ (t : Task). not (t.number == number)) u.tasks pending fits)
 
-busy_out : (u : Up) (number : ℕ) (job : Job) (rest : Up) (pending : Option Pending) → TakesOut u number job rest → ends_pending job ≡ true → FitsPending (busy_jobs u.tasks) pending
+pub busy_out : (u : Up) (number : ℕ) (job : Job) (rest : Up) (pending : Option Pending) → TakesOut u number job rest → ends_pending job ≡ true → FitsPending (busy_jobs u.tasks) pending
     → FitsJob job pending × (busy_jobs rest.tasks ≡ [])
 busy_out u number job rest pending out busy fits =
     let r = taken_out out.asked u.tasks out.task pending out.found (ap ends_pending out.is_job ∙ busy) fits in

@@ -10,7 +10,9 @@ use Rattle.bcv_model.specs.declared.event.Event.TheVariants as event
 use Rattle.bcv_model.specs.declared.reply.Reply.{Reply}
 use Rattle.bcv_model.specs.declared.reply.Reply.TheVariants as reply
 use Rattle.bcv_model.specs.declared.reply.Said.{Said}
-use Rattle.bcv_machine.specs.State.{State, Client, KeptState, Note, Committing, Reverting, Intending, Finishing, Voiding, client_at, commits_in}
+use Rattle.bcv_machine.specs.Run.{Run}
+use Rattle.bcv_machine.specs.SingleLaw.{IsSingle}
+use Rattle.bcv_machine.specs.State.{State, first_state, Client, KeptState, Note, Committing, Reverting, Intending, Finishing, Voiding, client_at, commits_in}
 use Rattle.bcv_machine.specs.Step.{Choice, Next}
 
 -- each database has the commits that it had, and maybe further ones after them
@@ -26,10 +28,9 @@ TakesCommits (Some (Intending p)) = ⊥
 TakesCommits (Some (Finishing n)) = Unit {0}
 TakesCommits (Some Voiding) = ⊥
 
--- a client is told that a publication was made, of its own or one that it resolved
+-- a client is told that a publication was made, by its own put or by a resolve
 abbrev pub TellsOfPublication : Reply → Type 0
 TellsOfPublication (reply.Done n) = Unit {0}
-TellsOfPublication (reply.Cleaned deleted more) = Unit {0}
 TellsOfPublication (reply.Resolved n) = Unit {0}
 TellsOfPublication _ = ⊥
 
@@ -52,8 +53,14 @@ abbrev pub MayTakeOf : ℕ → Event → Reply → Option Note → Type 0
 MayTakeOf n (event.Tick k) r flight = ⊥
 MayTakeOf n (event.Of m what) r flight = (m ≡ n) × MayTakeCommits what r flight
 
--- at every other event the commits of every client stay
+-- at every other event the commits of a client stay, which has one publication at a time, as in each run
 abbrev pub CommitsLeaveOnly : Type 0
 CommitsLeaveOnly =
-    (a b : State) (e : Event) (s : Said) (c : Choice) → Next a e s c b → (n : ℕ) (before after : Client) → client_at a n ≡ Some before → client_at b n ≡ Some after
+    (a b : State) (e : Event) (s : Said) (c : Choice) → Next a e s c b → (n : ℕ) (before after : Client) → client_at a n ≡ Some before → client_at b n ≡ Some after → IsSingle before
     → CommitsStay before.kept after.kept ⊎ MayTakeOf n e s.reply before.flight
+
+-- so at no event after any run of a world
+abbrev pub CommitsLeaveOnlyInRuns : Type 0
+CommitsLeaveOnlyInRuns =
+    (clients slots : ℕ) (a b : State) (es : List Event) (ss : List Said) (cs : List Choice) (e : Event) (s : Said) (c : Choice) → Run (first_state clients slots) es ss cs a → Next a e s c b
+    → (n : ℕ) (before after : Client) → client_at a n ≡ Some before → client_at b n ≡ Some after → CommitsStay before.kept after.kept ⊎ MayTakeOf n e s.reply before.flight

@@ -1,12 +1,12 @@
 pub mod CommitLaw
 pub mod CrashAndUp
 pub mod Gone
-pub mod Laws
 pub mod LocalWriting
 pub mod ManifestGet
 pub mod ManifestPut
 pub mod MiddleStep
 pub mod Noting
+pub mod OneStateLaw
 pub mod Poll
 pub mod Reading
 pub mod Refusals

@@ -53,7 +53,7 @@ kind_fault c dbs Cleaning = None
 abbrev pub edit_fault : Container → Version → Kind → Option Reply
 edit_fault c v kind = if version_count c == 2 ^ 64 - 1 then Some reply.VersionsFull else kind_fault c v.dbs kind
 
--- ---- want of room
+-- ---- a lack of room
 
 -- the blocks of some databases, over blocks of a size
 abbrev pub database_blocks : ℕ → List Database → ℕ
@@ -65,7 +65,7 @@ abbrev pub all_blocks : ℕ → List Version → ℕ
 all_blocks block [] = 0
 all_blocks block (v ∷ vs) = database_blocks block v.dbs + all_blocks block vs
 
--- a fault of the edit: the first that the version decides, exactly; else want of room, which may come only where there are
+-- a fault of the edit: the first that the version decides, exactly; else a lack of room, which may come only where there are
 -- very many versions, or blocks of all versions together
 abbrev pub IsEditFault : Container → Version → Kind → Reply → Type 0
 IsEditFault c v kind reply.WritersFull = (edit_fault c v kind ≡ None) × (4096 ≤ version_count c)

@@ -1,5 +1,5 @@
-ghost use Rattle.bcv_machine.specs.CommitLaw.{CommitsLeaveOnly};
-ghost use Rattle.bcv_machine.specs.Laws.{OneStateFollows};
+ghost use Rattle.bcv_machine.specs.CommitLaw.{CommitsLeaveOnly, CommitsLeaveOnlyInRuns};
+ghost use Rattle.bcv_machine.specs.OneStateLaw.{OneStateFollows};
 ghost use Rattle.bcv_machine.specs.SingleLaw.{StaysSingle, AlwaysSingle};
 ghost use Rattle.bcv_machine.specs.TxnLaw.{ImagesStay};
 ghost use Rattle.bcv_machine.specs.VersionLaw.{VersionsGrow, VersionsStay};
@@ -17,10 +17,11 @@ pub fn versions_only_grow()
     ensures stay { VersionsStay }
 {}
 
-/// Acknowledged commits leave only where their client is told of it: at a publication that was made or resolved, and at
-/// a revert. After a crash they leave only where such a note was in flight. Everything else leaves them, whoever does it.
+/// Acknowledged commits leave only where their client is told of it: at a Done, at a Resolved and at a Revert. After a crash
+/// they leave only where such a note was in flight. Everything else lets them stay, in order, whoever does it.
 pub fn commits_leave_only_told()
-    ensures { CommitsLeaveOnly }
+    ensures step { CommitsLeaveOnly }
+    ensures run { CommitsLeaveOnlyInRuns }
 {}
 
 /// A transaction's image never changes after its begin, whatever its own client or another one does: while it is open,

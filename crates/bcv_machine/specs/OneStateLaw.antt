@@ -1,4 +1,4 @@
--- Laws of the machine alone.
+-- What is said of an event decides the state after it.
 use Rattle.std.specs.Prelude.{◌≡◌}
 use Rattle.bcv_model.specs.declared.event.Act.{Act}
 use Rattle.bcv_model.specs.declared.event.Act.TheVariants as act
