@@ -7,6 +7,8 @@ pub mod MachinePut
 pub mod MachineReading
 pub mod MachineStart
 pub mod MachineState
+pub mod Notes
+pub mod NoteRules
 pub mod ReplyText
 pub mod Script
 pub mod Words

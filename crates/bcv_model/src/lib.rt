@@ -8,6 +8,7 @@
 mod ask;
 mod event;
 mod kept;
+mod note;
 mod reply;
 mod spec;
 
@@ -15,5 +16,6 @@ pub use ask::{Ask, Commit};
 pub use bcv_base::Outcome;
 pub use event::{Act, Event};
 pub use kept::{Kept, Local, PendingPub, Uploading};
+pub use note::Note;
 pub use reply::{Reply, Row, Said};
 pub use spec::WorldSpec;

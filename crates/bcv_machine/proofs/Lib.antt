@@ -1,0 +1,11 @@
+mod Accepted
+mod ActMoves
+mod Clients
+mod CommitsStay
+mod Moves
+mod OneState
+mod Publishing
+mod Refused
+mod Single
+mod TxnsStay
+mod Versions
