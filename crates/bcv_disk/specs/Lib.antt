@@ -1,7 +1,5 @@
+pub mod DiskShown
 pub mod Crash
-pub mod Record
 pub mod Troubles
-pub mod Inside
-pub mod Memory
-pub mod Told
+pub mod DiskCalls
 pub mod Calls
