@@ -2,4 +2,10 @@ pub mod DiskShown
 pub mod Crash
 pub mod Troubles
 pub mod DiskCalls
+pub mod Record
+pub mod Story
+pub mod Inside
+pub mod Memory
+pub mod Tearing
+pub mod Told
 pub mod Calls
