@@ -1,7 +1,11 @@
+pub mod DiskShown
 pub mod Crash
-pub mod Record
 pub mod Troubles
+pub mod DiskCalls
+pub mod Record
+pub mod Story
 pub mod Inside
 pub mod Memory
+pub mod Tearing
 pub mod Told
 pub mod Calls

@@ -1,5 +1,6 @@
--- The troubles that a disk may tell: whether it is burnt, the fuse that is set, and the failure that is set.
-use Rattle.std.specs.Prelude.{◌≡◌, ◌⊎◌, ℕ, zero, suc, ◌≤◌, Bool, true, false, Option, None, Some}
+-- What calls make of the troubles that a disk may tell.
+use Rattle.std.specs.Prelude.{◌≡◌, ◌⊎◌, ℕ, ◌+◌, ◌-◌, ◌^◌, ◌≤◌, Bool, true, false, min, Option, None, Some}
+use Rattle.bcv_disk.specs.DiskShown.{Trouble}
 
 -- a fuse is set afterwards only where it was set before, with the same image and no more calls left
 abbrev pub FuseLeft : Option (ℕ × ℕ) → Option (ℕ × ℕ) → Type 0
@@ -13,18 +14,29 @@ FailureLeft before after = (calls : ℕ) → after ≡ Some calls → (more : �
 abbrev pub IsSpent : Option ℕ → Option ℕ → Type 0
 IsSpent before after = (calls : ℕ) × (before ≡ Some calls) × (after ≡ None)
 
--- what a call, or several of which the last may have failed, makes of the troubles
-pub record Suffers (burnt_before burnt_after : Bool) (fuse_before fuse_after : Option (ℕ × ℕ)) (failure_before failure_after : Option ℕ) (failed : Type 0) : Type 0 where
-  pub fuse_left : FuseLeft fuse_before fuse_after
-  pub failure_left : FailureLeft failure_before failure_after
+-- What a call makes of the troubles, or several of which each but the last was no failure: no fault comes without a
+-- trouble, and none is kept back.
+pub record Suffers (old new : Trouble) (failed : Type 0) : Type 0 where
+  pub fuse_left : FuseLeft old.fuse new.fuse
+  pub failure_left : FailureLeft old.failure new.failure
   -- burnt only where it was so, or a fuse was set
-  pub burns : burnt_after ≡ true → (burnt_before ≡ true) ⊎ ((calls : ℕ) × (image : ℕ) × (fuse_before ≡ Some (calls, image)))
+  pub burns : new.burnt ≡ true → (old.burnt ≡ true) ⊎ ((calls : ℕ) × (image : ℕ) × (old.fuse ≡ Some (calls, image)))
   -- a call that burns the disk leaves no fuse set
-  pub burnt_out : burnt_before ≡ false → burnt_after ≡ true → fuse_after ≡ None
-  pub cause : failed → (burnt_after ≡ true) ⊎ IsSpent failure_before failure_after
+  pub burnt_out : old.burnt ≡ false → new.burnt ≡ true → new.fuse ≡ None
+  -- what is burnt stays so
+  pub stays_burnt : old.burnt ≡ true → new.burnt ≡ true
+  pub cause : failed → (new.burnt ≡ true) ⊎ IsSpent old.failure new.failure
+  -- a fuse that burns makes the call fail
+  pub strikes : old.burnt ≡ false → new.burnt ≡ true → failed
+  -- a failure that is spent makes the call fail
+  pub spends : IsSpent old.failure new.failure → failed
 
--- A failure that is set counts each call: it strikes the call for which no call is left, and no other.
-abbrev pub CountsDown : Option ℕ → Option ℕ → Type 0 → Type 0
-CountsDown None after failed = (after ≡ None) × (failed → ⊥)
-CountsDown (Some zero) after failed = (after ≡ None) × failed
-CountsDown (Some (suc calls)) after failed = (after ≡ Some calls) × (failed → ⊥)
+-- as many calls more, or the last number that a count of calls can tell
+abbrev pub counted : ℕ → ℕ → ℕ
+counted calls more = min (calls + more) (2 ^ 64 - 1)
+
+-- one call was counted, unless the disk was burnt before it, and then the call fails
+pub record CountsCall (old new : Trouble) (failed : Type 0) : Type 0 where
+  pub once : old.burnt ≡ false → new.calls ≡ counted old.calls 1
+  pub never : old.burnt ≡ true → new.calls ≡ old.calls
+  pub down : old.burnt ≡ true → failed

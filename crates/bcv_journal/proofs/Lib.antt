@@ -1,4 +1,1 @@
-mod Bytes
-mod Reader
-mod Append
-mod Loading
+

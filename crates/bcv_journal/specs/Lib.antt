@@ -1,7 +1,11 @@
 pub mod Answers
 pub mod Layout
 pub mod Settled
-pub mod Reading
-pub mod Loaded
-pub mod Unique
 pub mod Parts
+pub mod Loaded
+pub mod JournalCalls
+pub mod KeptWrite
+pub mod Reading
+pub mod AddedItem
+pub mod Moved
+pub mod LoadedItems

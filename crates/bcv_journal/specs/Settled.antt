@@ -1,29 +1,36 @@
--- What a journal and its disk hold, and what an append may leave.
-use Rattle.std.specs.Prelude.{◌≡◌, ◌⊎◌, ℕ, ◌^◌, ◌≤◌, Bool, false, List, [], ◌∷◌, ◌++◌, length, Result, Ok, map, Vec}
+-- What a journal and its disk hold, and what its calls may leave.
+use Rattle.std.specs.Prelude.{◌≡◌, ◌⊎◌, ℕ, ◌^◌, ◌≤◌, List, [], ◌∷◌, ◌++◌, length, Result, Ok, map, Vec}
 use Rattle.std.specs.declared.alloc.Global.{Global}
 use Rattle.bcv_disk.specs.Crash.{Only}
-use Rattle.bcv_journal.specs.Layout.{IsSpelled, Loads, tail_of}
+use Rattle.bcv_disk.specs.DiskShown.{DiskShown}
+use Rattle.bcv_journal.specs.Layout.{IsSpelled, Loads, is_second, tail_of}
+use Rattle.bcv_journal.specs.declared.area.Area.{Area}
 
 -- the bytes of each vector
 abbrev pub items_of : List (Vec ℕ Global) → List (List ℕ)
 items_of vectors = map (λ (v : Vec ℕ Global). v.items) vectors
 
--- an open journal whose file has these items, all of it on the disk, and whose tail is the place behind them
-pub record IsSettled {D : Type 0} (seen : D → List ℕ) (may_leave : D → List ℕ → Type 0) (disk : D) (tail : ℕ) (closed : Bool) (items : List (List ℕ)) : Type 0 where
-  pub is_open : closed ≡ false
-  pub spelled : IsSpelled (seen disk) items
-  pub short : length (seen disk) ≤ 2 ^ 31
-  pub tail_is : tail ≡ tail_of items
-  pub durable : Only (seen disk) (may_leave disk)
+-- a file with these items in this area, all of it on the disk
+pub record IsSettled (shown : DiskShown) (area : Area) (items : List (List ℕ)) : Type 0 where
+  pub spelled : IsSpelled shown.seen items
+  pub short : length shown.seen ≤ 2 ^ 31
+  pub start_is : area.start ≡ length spelled.front
+  pub second_is : area.second ≡ is_second spelled.front
+  pub tail_is : area.tail ≡ tail_of area.start items
+  pub durable : Only shown.seen shown.may_leave
+
+-- the image loads as the one list of items or as the other
+abbrev pub IsEither : List (List ℕ) → List (List ℕ) → List ℕ → Type 0
+IsEither old new image = Loads image (Ok old) ⊎ Loads image (Ok new)
 
 -- the image loads as the items, or as those and one more
 abbrev pub IsBeforeOrAfter : List (List ℕ) → List ℕ → List ℕ → Type 0
-IsBeforeOrAfter items item image = Loads image (Ok items) ⊎ Loads image (Ok (items ++ item ∷ []))
+IsBeforeOrAfter items item image = IsEither items (items ++ item ∷ []) image
 
 -- the image loads as the file does
 abbrev pub LoadsAlike : List ℕ → List ℕ → Type 0
 LoadsAlike bytes image = (outcome : Result (List (List ℕ)) ℕ) → Loads bytes outcome → Loads image outcome
 
 -- the image was possible before, or loads as the file does
-abbrev pub IsOldOrAlike : (List ℕ → Type 0) → List ℕ → List ℕ → Type 0
-IsOldOrAlike may_leave bytes image = may_leave image ⊎ LoadsAlike bytes image
+abbrev pub IsOldOrAlike : DiskShown → List ℕ → Type 0
+IsOldOrAlike before image = before.may_leave image ⊎ LoadsAlike before.seen image

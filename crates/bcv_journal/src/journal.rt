@@ -1,8 +1,11 @@
-ghost use Rattle.std.specs.Prelude.{◌≡◌, ◌⊎◌, ◌↔◌, ◌<◌, ◌≤◌, ◌+◌, ◌^◌, ◌++◌, [], ◌∷◌, true, false, Some, List, ℕ, length, IsTrue};
-ghost use Rattle.bcv_base.specs.Faults.{Rose};
+ghost use Rattle.std.specs.Prelude.{◌≡◌, ◌↔◌, ◌<◌, ◌≤◌, ◌+◌, ◌^◌, [], ◌∷◌, true, false, Some, List, ℕ, length, IsTrue};
+ghost use Rattle.bcv_journal.specs.Settled.{items_of};
 
+use crate::area::Area;
 use crate::item::write_item;
+use crate::layout::whole_area;
 use crate::load::load_items;
+use crate::restart::{choose, lay, place_for};
 use crate::{Load, Noted};
 use bcv_disk::{Disk, DiskEnd, Planned};
 use std::alloc::Global;
@@ -11,35 +14,31 @@ use std::alloc::Global;
 #[derive(Drop)]
 pub struct Journal<D: Disk> {
     disk: D,
-    tail: u64,
+    area: Area,
     closed: bool,
-    ghost short: { tail ≤ 2 ^ 31 },
-    ghost room: { D.tells → closed ≡ false → tail < length (D.seen disk) },
+    ghost start: { 17 ≤ area.start },
+    ghost order: { area.start ≤ area.tail },
+    ghost short: { area.tail < 2 ^ 31 },
+    ghost room: { D.told.tells → closed ≡ false → area.tail < length (D.shown disk).seen },
 }
 
 impl<D: Disk> Journal<D> {
-    ghost use Rattle.bcv_disk.specs.Crash.{IsSame, LeavesOnly};
-    ghost use Rattle.bcv_disk.specs.Troubles.{Suffers};
-    ghost use Rattle.bcv_journal.specs.Settled.{IsSettled, IsBeforeOrAfter, IsOldOrAlike};
-    ghost use Rattle.bcv_journal.specs.Loaded.{Gives, IsDiskFault, IsOpen, disk_in};
+    ghost use Rattle.bcv_journal.specs.JournalCalls.{JournalAppends, JournalRestarts, MayRestart};
+    ghost use Rattle.bcv_journal.specs.Loaded.{JournalLoads};
+    ghost use Rattle.bcv_journal.specs.Parts.{is_closed, start_at, tail_at};
 
     /// Loads the journal of a disk: it syncs the disk first, and gives the items in order.
     ///
-    /// A file of at most nine bytes becomes an empty journal. A file that is no journal is refused with the place of
+    /// A file of at most 18 bytes becomes an empty journal. A file that is no journal is refused with the place of
     /// what is wrong, and the disk comes back with every refusal.
     pub fn load(alloc: Global, mut disk: D) -> Load<D>
-        ensures loaded { D.tells → Gives D.seen D.may_leave (D.seen disk) result }
-        ensures any_moment { D.tells → LeavesOnly D.moment D.left_since disk (disk_in result) (IsOldOrAlike (D.may_leave disk) (D.seen disk)) }
-        ensures later { D.faults disk ≤ D.faults (disk_in result) }
-        ensures fault { IsDiskFault result → Rose (D.faults disk) (D.faults (disk_in result)) }
-        ensures is_open { IsOpen result }
-        ensures troubles { D.troubled → Suffers (D.burnt disk) (D.burnt (disk_in result)) (D.fuse disk) (D.fuse (disk_in result)) (D.failure disk) (D.failure (disk_in result)) (IsDiskFault result) }
+        ensures { JournalLoads D.told D.shown disk result }
     {
         match load_items(alloc, &mut disk) {
-            Ok((items, tail)) => {
+            Ok((items, area)) => {
                 let journal = Journal {
                     disk,
-                    tail,
+                    area,
                     closed: false,
                 };
                 Load::Ready(journal, items)
@@ -48,51 +47,86 @@ impl<D: Disk> Journal<D> {
         }
     }
 
-    /// Whether an append has met a fault of the disk.
+    /// Whether a call has met a fault of the disk.
     pub fn closed(&self) -> bool
-        ensures { result ≡ self.now.closed }
+        ensures { result ≡ is_closed self.now }
     {
         self.closed
     }
 
-    /// Adds an item, whole or not at all: at `Done` it is on the disk. `spare` is what has to stay free behind it,
+    /// The place of the closed gate after the items.
+    pub fn tail(&self) -> u64
+        ensures place { result ≡ tail_at self.now }
+        ensures short { result < 2 ^ 31 }
+    {
+        self.area.tail
+    }
+
+    /// The place of the first item's gate, and that of the closed gate after the items.
+    pub fn span(&self) -> (u64, u64)
+        ensures start { result.0 ≡ start_at self.now }
+        ensures tail { result.1 ≡ tail_at self.now }
+        ensures order { (17 ≤ result.0) × (result.0 ≤ result.1) × (result.1 < 2 ^ 31) }
+    {
+        (self.area.start, self.area.tail)
+    }
+
+    /// Adds an item, whole or not at all: at `Done` it is on the disk. `spare` is what has to stay free after it,
     /// in bytes.
     ///
     /// `Closed` is tested first, then `JournalFull`.
     pub fn append(&mut self, alloc: Global, bytes: &[u8], spare: u64) -> Noted
         requires item { 0 < length bytes.now }
         requires spare { spare ≤ 2 ^ 31 }
-
-        // When each answer comes.
-        ensures closed { (result ≡ Noted.Closed) ↔ (self.old.closed ≡ true) }
-        ensures full { (result ≡ Noted.JournalFull) ↔ ((self.old.closed ≡ false) × (2 ^ 31 < self.old.tail + 6 + length bytes.now + spare)) }
-        ensures fault { result ≡ Noted.DiskFault → Rose (D.faults self.old.disk) (D.faults self.new.disk) }
-        ensures later { D.faults self.old.disk ≤ D.faults self.new.disk }
-
-        // A fault closes the journal, and nothing else does.
-        ensures shuts { (self.new.closed ≡ true) ↔ ((self.old.closed ≡ true) ⊎ (result ≡ Noted.DiskFault)) }
-        ensures tail { result ≡ Noted.Done → self.new.tail ≡ self.old.tail + 5 + length bytes.now }
-        ensures tail_stays { (result ≡ Noted.Done → ⊥) → self.new.tail ≡ self.old.tail }
-        ensures refused { (result ≡ Noted.Closed) ⊎ (result ≡ Noted.JournalFull) → self.new.disk ≡ self.old.disk }
-
-        // A crash at any moment of the call leaves the items before it, or those and the new one.
-        ensures any_moment { D.tells → (items : List (List ℕ)) → IsSettled D.seen D.may_leave self.old.disk self.old.tail self.old.closed items
-            → LeavesOnly D.moment D.left_since self.old.disk self.new.disk (IsBeforeOrAfter items bytes.now) }
-        ensures done { D.tells → (items : List (List ℕ)) → IsSettled D.seen D.may_leave self.old.disk self.old.tail self.old.closed items → result ≡ Noted.Done
-            → IsSettled D.seen D.may_leave self.new.disk self.new.tail self.new.closed (items ++ bytes.now ∷ []) }
-        ensures kept { D.tells → (items : List (List ℕ)) → IsSettled D.seen D.may_leave self.old.disk self.old.tail self.old.closed items → (result ≡ Noted.NoMemory) ⊎ (result ≡ Noted.JournalFull)
-            → IsSettled D.seen D.may_leave self.new.disk self.new.tail self.new.closed items }
-        ensures troubles { D.troubled → Suffers (D.burnt self.old.disk) (D.burnt self.new.disk) (D.fuse self.old.disk) (D.fuse self.new.disk) (D.failure self.old.disk) (D.failure self.new.disk) (result ≡ Noted.DiskFault) }
+        ensures { JournalAppends D.told D.shown self.old self.new bytes.now spare result }
     {
         if self.closed {
             return Noted::Closed;
         }
-        if !has_room(self.tail, bytes.len(), spare) {
+        if !has_room(self.area.tail, bytes.len(), spare) {
             return Noted::JournalFull;
         }
-        match write_item(alloc, &mut self.disk, self.tail, bytes) {
+        match write_item(alloc, &mut self.disk, self.area, bytes) {
             DiskEnd::Done => {
-                self.tail += 5 + bytes.len() as u64;
+                self.area.tail += 5 + bytes.len() as u64;
+                Noted::Done
+            }
+            DiskEnd::Failed => {
+                self.closed = true;
+                Noted::DiskFault
+            }
+            DiskEnd::NoMemory => Noted::NoMemory,
+        }
+    }
+
+    /// Puts the given items in place of all, which frees at least half of the area.
+    ///
+    /// Every image that a crash leaves meanwhile loads as the old items or as the given ones.
+    pub fn restart(&mut self, alloc: Global, items: &[Vec<u8>]) -> Noted
+        requires { MayRestart (start_at self.old) (tail_at self.old) (items_of items.now) }
+        ensures { JournalRestarts D.told D.shown self.old self.new (items_of items.now) result }
+    {
+        if self.closed {
+            return Noted::Closed;
+        }
+        let Ok(block) = whole_area(alloc, items) else {
+            return Noted::NoMemory;
+        };
+        let size = block.len() as u64 - 1;
+        let start = place_for(size, self.area.start, self.area.tail);
+        let laid = lay(alloc, &mut self.disk, self.area, start, &block);
+        let end = match laid {
+            DiskEnd::Done => choose(alloc, &mut self.disk, !self.area.second),
+            DiskEnd::Failed => DiskEnd::Failed,
+            DiskEnd::NoMemory => DiskEnd::NoMemory,
+        };
+        match end {
+            DiskEnd::Done => {
+                self.area = Area {
+                    start,
+                    tail: start + size,
+                    second: !self.area.second,
+                };
                 Noted::Done
             }
             DiskEnd::Failed => {
@@ -109,7 +143,7 @@ impl<D: Disk> Journal<D> {
     {
         let Journal {
             disk,
-            tail: _,
+            area: _,
             closed: _,
         } = self;
         disk
@@ -127,21 +161,30 @@ fn has_room(tail: u64, size: usize, spare: u64) -> bool
 }
 
 impl<D: Planned> Journal<D> {
-    ghost use Rattle.bcv_disk.specs.Crash.{IsSame};
-    ghost use Rattle.bcv_journal.specs.Settled.{IsSettled};
+    ghost use Rattle.bcv_disk.specs.DiskCalls.{DiskPlans};
+    ghost use Rattle.bcv_journal.specs.JournalCalls.{JournalPlans};
+
+    /// Plans a crash of the disk: `calls` further calls of it pass, and the next one leaves the image of that number.
+    pub fn fuse(&mut self, calls: u32, image: u8)
+        requires image { image < 5 }
+        ensures { JournalPlans D.shown self.old self.new
+            (record (D.shown self.old.disk).trouble { fuse = Some (calls, image) }) }
+    {
+        self.disk.fuse(calls, image);
+    }
 
     /// Plans a failure of the disk: `calls` further calls of it pass, and the next one fails.
     pub fn fail(&mut self, calls: u32)
-        ensures failure { D.failure self.new.disk ≡ Some calls }
-        ensures fuse { D.fuse self.new.disk ≡ D.fuse self.old.disk }
-        ensures burnt { D.burnt self.new.disk ≡ D.burnt self.old.disk }
-        ensures same { IsSame D.seen D.may_leave D.moment D.left_since self.old.disk self.new.disk }
-        ensures faults { D.faults self.new.disk ≡ D.faults self.old.disk }
-        ensures tail { self.new.tail ≡ self.old.tail }
-        ensures closed { self.new.closed ≡ self.old.closed }
-        ensures settled { (items : List (List ℕ)) → IsSettled D.seen D.may_leave self.old.disk self.old.tail self.old.closed items
-            → IsSettled D.seen D.may_leave self.new.disk self.new.tail self.new.closed items }
+        ensures { JournalPlans D.shown self.old self.new
+            (record (D.shown self.old.disk).trouble { failure = Some calls }) }
     {
         self.disk.fail(calls);
+    }
+
+    /// Whether a fuse has burnt the disk.
+    pub fn burnt(&self) -> bool
+        ensures { result ≡ (D.shown self.now.disk).trouble.burnt }
+    {
+        self.disk.burnt()
     }
 }

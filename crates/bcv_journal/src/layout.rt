@@ -1,17 +1,22 @@
 // The bytes of a journal's file.
 ghost use Rattle.std.specs.Prelude.{◌≡◌, ◌↔◌, ◌<◌, ◌≤◌, ◌+◌, ◌^◌, ◌++◌, [], ◌∷◌, List, ℕ, length, IfOk, IfErr, IsTrue, MatchOption, Result, take};
 ghost use Rattle.std.specs.Int.{w32, to_be_bytes};
-ghost use Rattle.bcv_journal.specs.Layout.{HasItem, IsSpelled, Loads, magic, tail_of};
+ghost use Rattle.std.specs.List.{AllByRecursion};
+ghost use Rattle.bcv_journal.specs.Layout.{HasItem, IsItem, Loads, area_of, field_of, magic, start_in};
 ghost use Rattle.bcv_journal.specs.Settled.{items_of};
-ghost use Rattle.bcv_journal.specs.Reading.{IsReadFault};
+ghost use Rattle.bcv_journal.specs.Reading.{IsRead, IsReadFault};
 
 use crate::JournalFault;
+use crate::area::Area;
 use std::alloc::{AllocError, Global};
 
-pub const MAGIC: [u8; 8] = *b"BCVJRN01";
+pub const MAGIC: [u8; 8] = *b"BCVJRN02";
 
-/// An empty journal: the magic and a closed gate.
-pub const EMPTY: [u8; 9] = *b"BCVJRN01\0";
+/// The place of the selector.
+pub const SELECTOR: u64 = 8;
+
+/// An empty journal: the magic, selector 0, the starts 17 and 0, a closed gate.
+pub const EMPTY: [u8; 18] = *b"BCVJRN02\0\0\0\0\x11\0\0\0\0\0";
 
 /// A file loads as one thing: as one list of items, or as no journal for one place.
 pub fn loads_once()
@@ -25,11 +30,29 @@ fn has_magic(bytes: &[u8]) -> bool
     &bytes[..8] == MAGIC.as_slice()
 }
 
-/// What stands behind an open gate: a whole item, and behind it at least a gate.
-fn front_item(behind: &[u8]) -> Option<(&[u8], &[u8])>
-    ensures { MatchOption result ((item next : List ℕ) → HasItem behind.now item next → ⊥) (λ r. HasItem behind.now r.0.now r.1.now) }
+/// The place of start 0 or of start 1 in the head.
+pub fn start_field(second: bool) -> u64
+    ensures { result ≡ field_of second }
 {
-    let (size, rest) = behind.split_first_chunk::<4>()?;
+    if second { 13 } else { 9 }
+}
+
+/// The start that is chosen in the head of a file.
+fn chosen_start(bytes: &[u8], second: bool) -> usize
+    requires { 17 ≤ length bytes.now }
+    ensures { result ≡ start_in bytes.now second }
+{
+    let at = start_field(second) as usize;
+    let mut field = [0; 4];
+    field.copy_from_slice(&bytes[at..at + 4]);
+    u32::from_be_bytes(field) as usize
+}
+
+/// What stands after an open gate: a whole item, and after it at least a gate.
+fn front_item(after: &[u8]) -> Option<(&[u8], &[u8])>
+    ensures { MatchOption result ((item next : List ℕ) → HasItem after.now item next → ⊥) (λ r. HasItem after.now r.0.now r.1.now) }
+{
+    let (size, rest) = after.split_first_chunk::<4>()?;
     let size = u32::from_be_bytes(*size) as usize;
     if size == 0 || rest.len() <= size {
         return None;
@@ -37,30 +60,39 @@ fn front_item(behind: &[u8]) -> Option<(&[u8], &[u8])>
     Some(rest.split_at(size))
 }
 
-/// The items of a file that is longer than an empty journal, and its tail.
-pub fn read_items(alloc: Global, bytes: &[u8]) -> Result<(Vec<Vec<u8>>, u64), JournalFault>
-    requires long { 9 < length bytes.now }
+/// The items of a file that is longer than an empty journal, and where they stand.
+pub fn read_items(alloc: Global, bytes: &[u8]) -> Result<(Vec<Vec<u8>>, Area), JournalFault>
+    requires long { 18 < length bytes.now }
     requires short { length bytes.now ≤ 2 ^ 31 }
-    ensures items { IfOk result (λ r. IsSpelled bytes.now (items_of r.0.items)) }
-    ensures tail { IfOk result (λ r. r.1 ≡ tail_of (items_of r.0.items)) }
+    ensures items { IfOk result (λ r. IsRead bytes.now r.1 (items_of r.0.items)) }
     ensures fault { IfErr result (IsReadFault bytes.now) }
 {
     if !has_magic(bytes) {
         return Err(JournalFault::NotJournal(0));
     }
+    let second = bytes[8] == 1;
+    let start = chosen_start(bytes, second);
+    if start < 17 || bytes.len() <= start {
+        return Err(JournalFault::NotJournal(start_field(second)));
+    }
     let mut items = Vec::new(alloc);
-    let mut rest = &bytes[8..];
-    while let [1, behind @ ..] = rest {
-        let Some((item, next)) = front_item(behind) else {
+    let mut rest = &bytes[start..];
+    while let [1, after @ ..] = rest {
+        let Some((item, next)) = front_item(after) else {
             return Err(JournalFault::NotJournal((bytes.len() - rest.len()) as u64));
         };
         items.push(item.to_vec(alloc)?)?;
         rest = next;
     }
-    Ok((items, (bytes.len() - rest.len()) as u64))
+    let area = Area {
+        start: start as u64,
+        tail: (bytes.len() - rest.len()) as u64,
+        second,
+    };
+    Ok((items, area))
 }
 
-/// An item as it is written behind the closed gate at the tail: length, bytes, and a closed gate.
+/// An item as it is written after the closed gate at the tail: length, bytes, and a closed gate.
 pub fn behind_gate(alloc: Global, item: &[u8]) -> Result<Vec<u8>, AllocError>
     requires { length item.now < 2 ^ 32 }
     ensures { IfOk result (λ v. v.items ≡ to_be_bytes w32 (length item.now) ++ item.now ++ 0 ∷ []) }
@@ -68,6 +100,22 @@ pub fn behind_gate(alloc: Global, item: &[u8]) -> Result<Vec<u8>, AllocError>
     let mut bytes = Vec::with_capacity(alloc, item.len() + 5)?;
     bytes.extend_from_slice(&(item.len() as u32).to_be_bytes())?;
     bytes.extend_from_slice(item)?;
+    bytes.push(0)?;
+    Ok(bytes)
+}
+
+/// An area of items: each with its open gate, and a closed gate after them.
+pub fn whole_area(alloc: Global, items: &[Vec<u8>]) -> Result<Vec<u8>, AllocError>
+    requires each { AllByRecursion IsItem (items_of items.now) }
+    requires short { length (area_of (items_of items.now)) < 2 ^ 31 }
+    ensures { IfOk result (λ v. v.items ≡ area_of (items_of items.now) ++ 0 ∷ []) }
+{
+    let mut bytes = Vec::new(alloc);
+    for item in items {
+        bytes.push(1)?;
+        bytes.extend_from_slice(&(item.len() as u32).to_be_bytes())?;
+        bytes.extend_from_slice(item)?;
+    }
     bytes.push(0)?;
     Ok(bytes)
 }

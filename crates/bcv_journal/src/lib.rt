@@ -6,17 +6,17 @@
 //! the disk until the item is there, and that is opened by a write of its own.
 #![tactic(auto)]
 
+mod area;
 mod fault;
 mod item;
 mod journal;
 mod keep;
 mod layout;
 mod load;
+mod restart;
 
 pub use fault::{JournalFault, Noted};
 pub use journal::Journal;
 pub use layout::loads_once;
 pub use load::Load;
 
-#[cfg(test)]
-mod tests;

@@ -1,0 +1,6 @@
+mod Torn
+mod Lawful
+mod Undoing
+mod Redoing
+mod Keeping
+mod Telling

@@ -1,5 +1,0 @@
-use Rattle.bcv_journal.specs.Unique.{Loads-once}
-use Rattle.bcv_journal.proofs.layout.loads_once.Goals as goal
-
-pub returns : goal.returns
-returns c = Loads-once
