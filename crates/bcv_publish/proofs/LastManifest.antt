@@ -17,7 +17,7 @@ use Rattle.bcv_base.specs.LogLaws.{object_after-append}
 use Rattle.bcv_base.specs.ManifestGrammar.{manifest_of}
 use Rattle.bcv_base.specs.Versions.{Reads}
 use Rattle.bcv_dbmap.specs.Sound.{Sound, KeepsManifest}
-use Rattle.bcv_publish.specs.Getting.{IsKept}
+use Rattle.bcv_dbmap.specs.Kept.{IsKept}
 
 -- what holds of each item of a later history held of those before
 always_before : (P : List Item → Item → Type 0) (past : List Item) (log : List Entry) → Always P (history_after past log) → Always P past
