@@ -14,11 +14,11 @@ use Rattle.bcv_base.specs.Image.{Page}
 use Rattle.bcv_base.specs.Numbered.{numbered, numbered_names}
 use Rattle.bcv_base.specs.Version.{Version}
 use Rattle.bcv_base.specs.Versions.{version_of, versions_of}
-use Rattle.bcv_dbcopy.specs.Working.{AreOwnBlocks, HasBlocks}
+use Rattle.bcv_dbcopy.specs.TaskWork.{AreOwnBlocks, HasBlocks}
 use Rattle.bcv_dbmap.specs.declared.plan.EditPlan.{EditPlan}
 use Rattle.bcv_dbmap.specs.declared.plan.EditPlan.TheVariants as edit
 use Rattle.bcv_dbmap.specs.Past.{has_version}
-use Rattle.bcv_publish.specs.Putting.{IsOwnBlock}
+use Rattle.bcv_dbmap.specs.OwnBlock.{IsOwnBlock}
 use Rattle.bcv_world.specs.Stands.{IsDrawn}
 
 -- ---- one more name
