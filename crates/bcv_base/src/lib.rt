@@ -1,12 +1,11 @@
 //! Names, images and the traits of the outside, on which every other crate stands.
 //!
 //! It stands on std, and on the crate `hex` for ids in text. Texts are read and written exactly: a reading answers
-//! `None` where the text is no name, and only there. Each trait of the outside ([`Source`], [`Sink`], [`Clock`],
-//! [`Names`]) has a count of faults, and a call of it fails exactly where that count rose. Over the forms in memory
-//! ([`MemSource`], [`MemSink`], [`SetClock`], [`CountNames`]) contracts also see which bytes, moments or names went by
-//! and which calls fail; over the adapters ([`StdSource`], [`StdSink`]) they see the bytes where the reader or writer
-//! tells them. No call here takes memory but those that are handed some: a clone, a sink in memory and a writer that
-//! allocates.
+//! `None` where the text is no name, and only there. Each trait of the outside ([`Source`], [`Sink`], [`Clock`], [`Names`]) has
+//! a count of faults, and a call of it fails exactly where that count rose. Over the forms in memory ([`MemSource`],
+//! [`MemSink`], [`SetClock`], [`CountNames`]) contracts also see which bytes, moments or names went by and which calls
+//! fail; over the adapters ([`StdSource`], [`StdSink`]) they see the bytes where the reader or writer tells them. No call here takes memory but
+//! those that are handed some: a clone, a sink in memory and a writer that allocates.
 #![tactic(auto)]
 
 mod clock;

@@ -15,7 +15,8 @@ use Rattle.bcv_dbmap.specs.Growth.{AreLawful}
 use Rattle.bcv_dbmap.specs.Past.{was_listed, was_dead}
 use Rattle.bcv_dbmap.specs.Sound.{Sound}
 use Rattle.bcv_dbmap.specs.OwnBlock.{IsOwnBlock}
-use Rattle.bcv_dbmap.proofs.OthersLaws.{own_block_stays, others_leave_mine}
+use Rattle.bcv_dbmap.proofs.BlockLaws.{own_block_stays}
+use Rattle.bcv_dbmap.proofs.OthersLaws.{others_leave_mine}
 use Rattle.bcv_dbcopy.specs.State.{block_text, pages_text, padded}
 use Rattle.bcv_dbcopy.specs.TaskPut.{BlocksStay, BlocksStayAfterPut}
 use Rattle.bcv_dbcopy.specs.TaskWork.{AreOwnBlocks, HasBlocks, OwnsBlocks}

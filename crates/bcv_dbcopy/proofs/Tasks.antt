@@ -33,7 +33,7 @@ use Rattle.bcv_publish.specs.ManifestRead.{unlike, is_other, is_past}
 use Rattle.bcv_publish.specs.ManifestPut.{IsReady, PutLeaves, refused_once}
 use Rattle.bcv_publish.specs.State.{with_latest}
 use Rattle.bcv_publish.specs.State as publish
-use Rattle.bcv_publish.proofs.Made.{fills_itself}
+use Rattle.bcv_dbmap.proofs.Fills.{fills_itself}
 use Rattle.bcv_dbcopy.specs.TaskPut.{is_published, behind_put}
 use Rattle.bcv_dbcopy.specs.State.{State, IsTask, IsRunning, IsNew, IsEdit, IsFresh, IsUnderWay, IsRead, IsRefused, Passed, PutBefore, FitsBlock, put_ids, needed, is_ready, left_by, left_of, manifest_requests}
 use Rattle.bcv_dbcopy.specs.TaskWork.{block_known, with_publish}

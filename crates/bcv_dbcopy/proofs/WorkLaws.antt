@@ -20,7 +20,8 @@ use Rattle.bcv_base.specs.Image.{Page}
 use Rattle.bcv_dbmap.specs.Past.{was_listed}
 use Rattle.bcv_dbmap.specs.RequestGrowth.{RequestGrowth}
 use Rattle.bcv_dbmap.specs.Sound.{Sound}
-use Rattle.bcv_dbmap.proofs.OthersLaws.{others_keep_sound, others_leave_mine, unlisted_undead}
+use Rattle.bcv_dbmap.proofs.BlockLaws.{unput_is_fresh}
+use Rattle.bcv_dbmap.proofs.OthersLaws.{others_keep_sound, others_leave_mine}
 use Rattle.bcv_publish.specs.declared.work.BlockEnd.{BlockEnd}
 use Rattle.bcv_publish.specs.declared.work.BlockEnd.TheVariants as end
 use Rattle.bcv_publish.specs.declared.work.Work.{Work}
@@ -144,9 +145,10 @@ module _ (s : State) (e : DbEntry) (l : Latest) (block : ℕ) where
   put_more mine before others after own ids i etag now sized b grown drawn unput put more =
       let log : List Entry = before ++ others in
       let f = b.fresh i drawn in
+      let none : first_put (history_of log) i ≡ None = b.bytes i f.0 ∙ unput in
       one_more (λ (past : List Item). HasBlocks mine past s.pages (edit.New (record e { blocks = now })) (Some block)) after log own i text etag grown put
       (subst (λ (x : List Id16). AreOwnBlocks mine (BlockPut i text ∷ history_of log) block e.page_size s.pages 0 x) (sym more)
-      (blocks_more mine (history_of log) block e.page_size s.pages e.blocks i sized f.0 (b.bytes i f.0 ∙ unput) f.1 (unlisted_undead (history_of log) i b.sound f.1) b.has))
+      (blocks_more mine (history_of log) block e.page_size s.pages e.blocks i sized f.0 none f.1 (unput_is_fresh mine (history_of log) i b.sound f.0 none).not_dead b.has))
 
   put_lost : (mine : List Id16) (before others after own : List Entry) (ids : List Id16) (i : Id16) (etag : ℕ) (now : List Id16) → Before mine before others ids → after ≡ (before ++ others) ++ own
       → own ≡ entry.Put true (object.Block i) text etag ∷ [] → now ≡ e.blocks → OwnsBlocks mine after (with_ids now)

@@ -1,5 +1,5 @@
 -- What lawful entries of others keep: a sound history, and what is mine as it was.
-use Rattle.std.proofs.Common.{◌≡◌, ◌∙◌, ℕ, Bool, true, false, cond, List, [], ◌∷◌, ◌++◌, Option, Some, None, refl, sym, ap, subst, ne_eqb, arith}
+use Rattle.std.proofs.Common.{◌≡◌, ◌∙◌, ℕ, Bool, true, false, cond, List, [], ◌∷◌, ◌++◌, Option, Some, None, refl, sym, ap, subst}
 use Rattle.bcv_base.specs.declared.id.Id16.{Id16}
 use Rattle.bcv_base.specs.declared.log.Entry.{Entry}
 use Rattle.bcv_base.specs.declared.manifest.Manifest.{Manifest}
@@ -8,17 +8,16 @@ use Rattle.bcv_base.specs.History.{Item, BlockPut, Published, Unreadable, BlockD
 use Rattle.bcv_base.specs.HistoryLaws.{id_eq-is, history_after-append}
 use Rattle.bcv_base.specs.Ids.{id_eq, has_id}
 use Rattle.bcv_base.specs.Image.{or_else}
-use Rattle.bcv_base.specs.ManifestRules.{writer_id, lists, MeetsWriterRules, MeetsRules}
+use Rattle.bcv_base.specs.ManifestRules.{lists, MeetsRules}
 use Rattle.bcv_dbmap.specs.Deletions.{IsDeletable}
 use Rattle.bcv_dbmap.specs.Growth.{Edits, Creates, Publishes, PutsNew, IsPublication, IsLawful, AreLawful, IsUntouched}
-use Rattle.bcv_dbmap.specs.Laws.{OthersKeepSound, OthersLeaveMine, OwnBlockStays}
-use Rattle.bcv_dbmap.specs.Past.{was_listed, was_dead, has_version, is_numbered, writer_of}
+use Rattle.bcv_dbmap.specs.Laws.{OthersKeepSound, OthersLeaveMine}
+use Rattle.bcv_dbmap.specs.Past.{was_listed, has_version, is_numbered, writer_of}
 use Rattle.bcv_dbmap.specs.Sound.{IsEditOf, IsFirst, Sound}
 use Rattle.bcv_dbmap.proofs.Bools.{neither_or, not_passed, not_both}
-use Rattle.bcv_dbmap.proofs.EditLaws.{edit_number, edit_writer}
-use Rattle.bcv_dbmap.proofs.Keys.{all_found}
-use Rattle.bcv_dbmap.proofs.PastLaws.{last_not, last_rules, dead_listed}
-use Rattle.bcv_dbmap.proofs.SoundLaws.{other_line, lawful_keeps_sound}
+use Rattle.bcv_dbmap.proofs.EditLaws.{edit_writer}
+use Rattle.bcv_dbmap.proofs.PastLaws.{last_not, last_rules}
+use Rattle.bcv_dbmap.proofs.SoundLaws.{other_line, line_below, lawful_keeps_sound}
 
 -- ---- what each lawful entry keeps, lawful entries keep
 
@@ -106,14 +105,7 @@ module _ (mine : List Id16) where
       (λ i is.
       ap (λ (o : Option Writer). is_numbered o m.number)
       (edit_writer old m e i ∙ ap (λ (b : Bool). cond b (Some line) (writer_of i old.writers)) (other_id i e.writer is x.another))
-      ∙ below (writer_of i old.writers) (λ w found. all_found writer_id (MeetsWriterRules old.number) i.0 old.writers w rules.each_writer found))
-    where
-      below : (o : Option Writer) → ((w : Writer) → o ≡ Some w → MeetsWriterRules old.number w) → is_numbered o m.number ≡ false
-      below None meets = refl
-      below (Some w) meets =
-          let of_w : MeetsWriterRules old.number w = meets w refl in
-          let later : w.number ≡ m.number → ⊥ = λ same. omega (arith, same, of_w.most, edit_number old m x.edit) in
-          ne_eqb w.number m.number later
+      ∙ line_below old m i e rules)
 
   publication_leaves : (past : List Item) (m : Manifest) → Sound past → IsPublication mine past m → IsUntouched mine past (Published m ∷ past)
   publication_leaves past m s p = leaves (last_of past) refl p.publishes
@@ -133,18 +125,3 @@ pub others_leave_mine : OthersLeaveMine
 others_leave_mine mine log others s lawful =
     subst (IsUntouched mine (history_of log)) (sym (history_after-append [] log others))
     (kept_by_all mine (IsUntouched mine) (nothing_touched mine) (untouched_through mine) (one_leaves mine) others (history_of log) s lawful)
-
--- what was never listed never was dead
-pub unlisted_undead : (past : List Item) (i : Id16) → Sound past → was_listed past i ≡ false → was_dead past i ≡ false
-unlisted_undead past i s unlisted = not_passed (was_dead past i) (λ dead. not_both (was_listed past i) (dead_listed past i s.made dead) unlisted)
-
-pub own_block_stays : OwnBlockStays
-own_block_stays mine log others size i s lawful own =
-    let u = others_leave_mine mine log others s lawful in
-    let unlisted = u.unlisted i own.is_mine own.unlisted in
-    record {
-      is_mine = own.is_mine;
-      there = (own.there.0, u.bytes i own.is_mine ∙ own.there.1, own.there.2);
-      unlisted = unlisted;
-      not_dead = unlisted_undead (history_of (log ++ others)) i (others_keep_sound mine log others s lawful) unlisted;
-    }

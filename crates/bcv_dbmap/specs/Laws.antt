@@ -1,21 +1,23 @@
 -- The laws of edits and of sound histories.
-use Rattle.std.specs.Prelude.{◌≡◌, ◌<◌, ◌^◌, ℕ, true, false, List, [], ◌∷◌, ◌++◌, Some, None}
+use Rattle.std.specs.Prelude.{◌≡◌, ◌<◌, ◌^◌, ℕ, Bool, true, false, List, [], ◌∷◌, ◌++◌, Some, None, Ok}
 use Rattle.bcv_base.specs.declared.id.Id16.{Id16}
 use Rattle.bcv_base.specs.declared.log.Entry.{Entry}
+use Rattle.bcv_base.specs.declared.log.Entry.TheVariants as entry
 use Rattle.bcv_base.specs.declared.manifest.DbEntry.{DbEntry}
 use Rattle.bcv_base.specs.declared.manifest.Manifest.{Manifest}
+use Rattle.bcv_base.specs.declared.object.ObjName.TheVariants as object
 use Rattle.bcv_base.specs.Edits.{edited, created}
-use Rattle.bcv_base.specs.History.{Item, Published, Always, last_of, history_of}
+use Rattle.bcv_base.specs.History.{Item, Published, HasBlock, Always, last_of, history_of}
 use Rattle.bcv_base.specs.Ids.{has_id, IsId}
+use Rattle.bcv_base.specs.ManifestGrammar.{manifest_of}
 use Rattle.bcv_base.specs.ManifestRules.{MeetsRules, MeetsLimits, IsShort, lists, is_block_size}
 use Rattle.bcv_base.specs.Version.{Version}
-use Rattle.bcv_base.specs.Versions.{version_of, versions_of, Reads}
+use Rattle.bcv_base.specs.Versions.{version_of, versions_of, Reads, HasVersions}
 use Rattle.bcv_dbmap.specs.declared.plan.EditPlan.{EditPlan}
 use Rattle.bcv_dbmap.specs.Applied.{applied, first_manifest, edit_of, swept_ids, FitsPlan}
 use Rattle.bcv_dbmap.specs.Checked.{checked}
 use Rattle.bcv_dbmap.specs.Filled.{Fills}
 use Rattle.bcv_dbmap.specs.Growth.{IsNewBlock, IsLawful, AreLawful, IsUntouched}
-use Rattle.bcv_dbmap.specs.OwnBlock.{IsOwnBlock}
 use Rattle.bcv_dbmap.specs.Outlived.{IsDeletedIn, IsOutlived, IsGone}
 use Rattle.bcv_dbmap.specs.Past.{IsAmong, has_version, was_deleted}
 use Rattle.bcv_dbmap.specs.Sound.{Sound, IsSoundLog}
@@ -34,6 +36,29 @@ abbrev pub FirstCreates : Type 0
 FirstCreates =
     (past : List Item) (block retention : ℕ) (id writer : Id16) (moment : ℕ) → Always Reads past → last_of past ≡ None
     → versions_of (Published (first_manifest block retention id writer moment) ∷ past) ≡ created id moment ∷ []
+
+-- the put of such a manifest is not refused, where the plan passes and fits, and each block that is newly listed was put with
+-- the block size: the versions have that edit more
+abbrev pub AppliedHasVersions : Type 0
+AppliedHasVersions =
+    (log : List Entry) (versions : List Version) (old : Manifest) (plan : EditPlan) (id writer : Id16) (moment : ℕ) (own : Bool) (bytes : List ℕ) (etag : ℕ)
+    → HasVersions log versions → last_of (history_of log) ≡ Some old → checked old plan writer ≡ None → FitsPlan old.block plan
+    → moment < 2 ^ 64 → IsId id → IsId writer
+    → ((i : Id16) → lists (applied old plan id writer moment).dbs i ≡ true → lists old.dbs i ≡ false → HasBlock (history_of log) i old.block)
+    → manifest_of bytes ≡ Ok (applied old plan id writer moment)
+    → HasVersions (log ++ entry.Put own object.Manifest bytes etag ∷ []) (versions ++ edited (version_of (history_of log) old) (edit_of (history_of log) plan) id moment ∷ [])
+
+-- the put of a first manifest is not refused: there is one version, with no database
+abbrev pub FirstHasVersions : Type 0
+FirstHasVersions =
+    (log : List Entry) (block retention : ℕ) (id writer : Id16) (moment : ℕ) (own : Bool) (bytes : List ℕ) (etag : ℕ)
+    → HasVersions log [] → last_of (history_of log) ≡ None → is_block_size block ≡ true → retention < 2 ^ 64 → moment < 2 ^ 64 → IsId id → IsId writer
+    → manifest_of bytes ≡ Ok (first_manifest block retention id writer moment)
+    → HasVersions (log ++ entry.Put own object.Manifest bytes etag ∷ []) (created id moment ∷ [])
+
+-- a plan fills itself
+abbrev pub FillsItself : Type 0
+FillsItself = (plan : EditPlan) → Fills plan plan
 
 -- a first manifest meets the rules and the limits, and is short
 abbrev pub FirstMeetsRules : Type 0
@@ -73,12 +98,6 @@ abbrev pub OthersLeaveMine : Type 0
 OthersLeaveMine =
     (mine : List Id16) (log others : List Entry) → IsSoundLog log → AreLawful mine (history_of log) others
     → IsUntouched mine (history_of log) (history_of (log ++ others))
-
--- a block of mine that was put for a publication to come stays one
-abbrev pub OwnBlockStays : Type 0
-OwnBlockStays =
-    (mine : List Id16) (log others : List Entry) (size : ℕ) (i : Id16) → IsSoundLog log → AreLawful mine (history_of log) others
-    → IsOwnBlock mine (history_of log) size i → IsOwnBlock mine (history_of (log ++ others)) size i
 
 -- a publication of one's own that passes, over the last manifest, with a fresh id and new blocks, is lawful to every other
 -- client that shares no name

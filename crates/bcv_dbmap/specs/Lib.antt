@@ -1,4 +1,5 @@
 pub mod Applied
+pub mod BlockLaws
 pub mod Checked
 pub mod Counted
 pub mod Deletions
@@ -7,6 +8,7 @@ pub mod Growth
 pub mod Honest
 pub mod Kept
 pub mod Laws
+pub mod ManifestLaws
 pub mod Merged
 pub mod Outlived
 pub mod OwnBlock

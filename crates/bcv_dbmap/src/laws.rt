@@ -7,7 +7,10 @@ ghost use Rattle.bcv_dbmap.specs.Sound.{Sound};
 ghost use Rattle.bcv_dbmap.specs.Worked.{block, zeros, created, made, until_removed, life};
 ghost use Rattle.bcv_dbmap.specs.Laws.{
   AppliedAppendsEdit,
+  AppliedHasVersions,
+  FillsItself,
   FirstCreates,
+  FirstHasVersions,
   FirstMeetsRules,
   AppliedMeetsRules,
   AppliedMeetsLimits,
@@ -16,7 +19,6 @@ ghost use Rattle.bcv_dbmap.specs.Laws.{
   OthersKeepSound,
   VersionsStay,
   OthersLeaveMine,
-  OwnBlockStays,
   PublishedIsLawful,
   DeletedIsOutlived,
   GoneIsOutlived,
@@ -24,15 +26,18 @@ ghost use Rattle.bcv_dbmap.specs.Laws.{
 ghost use Rattle.bcv_dbmap.specs.Room.{FullIsMany};
 
 /// What a plan makes of the last manifest, published behind its new blocks, appends the plan's edit to the versions. The
-/// publish engine says with it which version its put made, and the world that the put is the machine's edit.
+/// publish engine says with it which version its put made, and the world that the put is the machine's edit. Where the plan
+/// passes and fits, such a put is not refused.
 pub fn applied_appends_edit()
-    ensures { AppliedAppendsEdit }
+    ensures appends { AppliedAppendsEdit }
+    ensures stands { AppliedHasVersions }
 {}
 
 /// A first manifest makes the first version, with no database. For the publish engine's first put of a container, and for
 /// the world's create.
 pub fn first_creates()
-    ensures { FirstCreates }
+    ensures creates { FirstCreates }
+    ensures stands { FirstHasVersions }
 {}
 
 /// A first manifest meets the rules and the limits of a manifest, and is short. The publish engine may write it by this.
@@ -49,6 +54,11 @@ pub fn applied_meets_rules()
 /// the limits and is short. The publish engine checks a plan by this before it puts the blocks.
 pub fn applied_meets_limits()
     ensures { AppliedMeetsLimits }
+{}
+
+/// A plan fills itself: what passes for it passes for it with the ids that it has.
+pub fn fills_itself()
+    ensures { FillsItself }
 {}
 
 /// A log with no entry is sound. The world begins with it.
@@ -75,12 +85,6 @@ pub fn versions_stay()
 /// publication of a writer. The publish engine finds its blocks and its fate by it, over a put whose answer was lost.
 pub fn others_leave_mine()
     ensures { OthersLeaveMine }
-{}
-
-/// A block that was put for a publication to come stays one while others append lawful entries. Requests that put blocks
-/// and publish later rest on it.
-pub fn own_block_stays()
-    ensures { OwnBlockStays }
 {}
 
 /// A publication of one's own that passes, over the last manifest, with a fresh id and new blocks, is lawful to every

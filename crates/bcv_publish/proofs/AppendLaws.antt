@@ -14,6 +14,7 @@ use Rattle.bcv_dbmap.specs.Growth.{AreLawful, IsLawful}
 use Rattle.bcv_dbmap.specs.Honest.{AreApart, GrewHonestly}
 use Rattle.bcv_dbmap.specs.RequestGrowth.{RequestGrowth}
 use Rattle.bcv_dbmap.specs.Sound.{Sound}
+use Rattle.bcv_dbmap.proofs.KeptLaws.{rising_front}
 use Rattle.bcv_store.specs.declared.store.Cond.{Cond}
 use Rattle.bcv_store.specs.declared.store.Put.{Put}
 use Rattle.bcv_store.specs.declared.store.Put.TheVariants as answer
@@ -25,7 +26,6 @@ use Rattle.bcv_store.specs.StoreShown.{StoreTold, StoreShown}
 use Rattle.bcv_publish.specs.ManifestAppend.{IsPut, AppendEffect, AppendFails, AppendEnds, ManifestAppendTold, AppendTakes, ManifestAppends, IsAppended}
 use Rattle.bcv_publish.specs.Request.{TakesOutcome}
 use Rattle.bcv_publish.proofs.Growth.{Later, later_of, growth_of, no_others}
-use Rattle.bcv_publish.proofs.LastManifest.{rising_front}
 
 -- ---- over any log
 

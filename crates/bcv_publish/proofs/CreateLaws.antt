@@ -8,15 +8,13 @@ use Rattle.bcv_base.specs.declared.outcome.Outcome.{Outcome}
 use Rattle.bcv_base.specs.declared.outcome.Outcome.TheVariants as outcome
 use Rattle.bcv_base.specs.declared.seen.Latest.{Latest}
 use Rattle.bcv_base.specs.Faults.{Rose}
-use Rattle.bcv_base.specs.History.{Published, history_of, last_of}
+use Rattle.bcv_base.specs.History.{history_of, last_of}
 use Rattle.bcv_base.specs.Ids.{IsId}
 use Rattle.bcv_base.specs.Log.{Object, object_of, are_rising}
-use Rattle.bcv_base.specs.ManifestRules.{MeetsRules, MeetsLimits, is_block_size}
+use Rattle.bcv_base.specs.ManifestRules.{MeetsRules, MeetsLimits, IsShort, is_block_size}
 use Rattle.bcv_dbmap.specs.Applied.{first_manifest}
-use Rattle.bcv_dbmap.specs.Growth.{IsLawful, Publishes}
-use Rattle.bcv_dbmap.specs.Growth as growth
-use Rattle.bcv_dbmap.specs.Honest.{AreApart}
-use Rattle.bcv_dbmap.specs.Sound.{IsFirst}
+use Rattle.bcv_dbmap.proofs.BlockLaws.{first_is_lawful}
+use Rattle.bcv_dbmap.proofs.KeptLaws.{Agrees, log_agrees}
 use Rattle.bcv_dbmap.proofs.RulesLaws.{first_meets_rules}
 use Rattle.bcv_store.specs.declared.store.Cond.TheVariants as cond
 use Rattle.bcv_store.specs.declared.store.Put.{Put}
@@ -28,7 +26,6 @@ use Rattle.bcv_publish.specs.ManifestAppend.{AppendEnds, AppendTakes, ManifestAp
 use Rattle.bcv_publish.specs.ManifestCreate.{CreateLeaves, CreateEnds, MayCreate, CreateLost, CreateFails, SoundCreateEnds, CreateTakes, CreateCause, ManifestCreates, CreateAnswered}
 use Rattle.bcv_publish.proofs.AppendLaws.{SoundAppendEnds, SoundFails, IsLawfulWhere, append_sound, none_appends}
 use Rattle.bcv_publish.proofs.Growth.{Later}
-use Rattle.bcv_publish.proofs.LastManifest.{Agrees, log_agrees}
 
 -- ---- whatever the store
 
@@ -81,19 +78,9 @@ sound_ends o absent last own m answer.NoMemory result h ends is = subst (SoundCr
 first_lawful : (mine : List Id16) (before : List Entry) (block retention : ℕ) (id writer : Id16) (moment : ℕ) → is_block_size block ≡ true → retention < 2 ^ 64 → moment < 2 ^ 64 → IsId id → IsId writer
     → MayCreate mine before writer id → IsLawfulWhere mine before cond.Absent (first_manifest block retention id writer moment)
 first_lawful mine before block retention id writer moment size small short is_id is_writer may others later rising absent theirs apart =
-    let m : Manifest = first_manifest block retention id writer moment in
     let log : List Entry = before ++ others in
-    let meets = first_meets_rules block retention id writer moment size small short is_id is_writer in
-    let first : IsFirst m = record { block = block; retention = retention; moment = moment; writer = writer; made = refl } in
-    let creates : growth.Creates theirs m = record { first = first; another = apart writer may.writer_mine } in
     let none : last_of (history_of log) ≡ None = (absent_by (object_of object.Manifest log) (last_of (history_of log)) (log_agrees log later.sound)).none absent in
-    record {
-      rules = meets.0;
-      limits = meets.1;
-      fresh = later.untouched.unpublished id may.id_mine may.fresh;
-      not_mine = apart id may.id_mine;
-      publishes = subst (λ (o : Option Manifest). Publishes theirs (history_of log) o m) (sym none) creates;
-    }
+    first_is_lawful theirs (history_of log) block retention id writer moment size small short is_id is_writer none (later.untouched.unpublished id may.id_mine may.fresh) (apart id may.id_mine) (apart writer may.writer_mine)
 
 -- ---- the whole
 
@@ -142,7 +129,7 @@ create_creates told old new block retention id writer moment made a result size 
 
 -- the first manifest may be written
 pub first_rules : (block retention : ℕ) (id writer : Id16) (moment : ℕ) (m : Manifest) → is_block_size block ≡ true → retention < 2 ^ 64 → moment < 2 ^ 64 → IsId id → IsId writer → m ≡ first_manifest block retention id writer moment
-    → MeetsRules m × MeetsLimits m
+    → MeetsRules m × MeetsLimits m × IsShort m
 first_rules block retention id writer moment m size small short is_id is_writer is =
     let meets = first_meets_rules block retention id writer moment size small short is_id is_writer in
-    (subst MeetsRules (sym is) meets.0, subst MeetsLimits (sym is) meets.1)
+    (subst MeetsRules (sym is) meets.0, subst MeetsLimits (sym is) meets.1, subst IsShort (sym is) meets.2)

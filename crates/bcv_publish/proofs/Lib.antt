@@ -3,10 +3,10 @@ pub mod BlockPutLaws
 pub mod CreateLaws
 pub mod GetLaws
 pub mod Growth
-pub mod LastManifest
 pub mod Made
 pub mod PutLaws
 pub mod ReadLaws
 pub mod Ready
+pub mod ResolveLaws
 pub mod Rising
 pub mod Unput

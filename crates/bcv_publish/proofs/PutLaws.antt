@@ -15,12 +15,15 @@ use Rattle.bcv_base.specs.Ids.{id_eq, IsId}
 use Rattle.bcv_base.specs.Log.{Object, object_of, are_rising}
 use Rattle.bcv_base.specs.ManifestGrammar.{manifest_of}
 use Rattle.bcv_dbmap.specs.declared.plan.EditPlan.{EditPlan}
-use Rattle.bcv_dbmap.specs.Growth.{IsLawful, IsNewBlock, IsUntouched}
+use Rattle.bcv_dbmap.specs.Growth.{IsLawful, IsNewBlock}
 use Rattle.bcv_dbmap.specs.Honest.{AreApart}
 use Rattle.bcv_dbmap.specs.OwnBlock.{IsOwnBlock}
-use Rattle.bcv_dbmap.specs.Past.{was_listed, was_deleted}
+use Rattle.bcv_dbmap.specs.Past.{was_deleted}
 use Rattle.bcv_dbmap.specs.Sound.{Sound}
-use Rattle.bcv_dbmap.proofs.OthersLaws.{unlisted_undead}
+use Rattle.bcv_dbmap.specs.Kept.{Stays}
+use Rattle.bcv_dbmap.proofs.BlockLaws.{own_block_stays}
+use Rattle.bcv_dbmap.proofs.Fills.{fills_itself}
+use Rattle.bcv_dbmap.proofs.KeptLaws.{kept_longer, kept_stays}
 use Rattle.bcv_dbmap.proofs.Publishes.{published_is_lawful}
 use Rattle.bcv_store.specs.declared.store.Cond.TheVariants as cond
 use Rattle.bcv_store.specs.declared.store.Put.{Put}
@@ -34,8 +37,6 @@ use Rattle.bcv_publish.specs.ManifestPut.{made, IsReady, MayPublish, PutEnds, So
 use Rattle.bcv_publish.specs.State.{State}
 use Rattle.bcv_publish.proofs.AppendLaws.{SoundAppendEnds, SoundFails, IsLawfulWhere, append_sound, none_appends}
 use Rattle.bcv_publish.proofs.Growth.{Later}
-use Rattle.bcv_publish.proofs.LastManifest.{Stays, kept_stays, kept_longer}
-use Rattle.bcv_publish.proofs.Made.{fills_itself}
 
 -- ---- the own publication is lawful
 
@@ -56,26 +57,22 @@ deleted_later past i (entry.Deleted own (object.Block j) at ∷ es) h = deleted_
     or_right false h = h
 
 -- a block of mine that no manifest listed is a new one to others
-own_block : (mine theirs : List Id16) (past later : List Item) (size : ℕ) (i : Id16) → AreApart mine theirs → Sound later → IsUntouched mine past later → IsOwnBlock mine past size i → IsNewBlock theirs later size i
-own_block mine theirs past later size i apart s u own =
-    let unlisted : was_listed later i ≡ false = u.unlisted i own.is_mine own.unlisted in
-    record {
-      there = (own.there.0, u.bytes i own.is_mine ∙ own.there.1, own.there.2);
-      not_mine = apart i own.is_mine;
-      not_listed = unlisted;
-      not_dead = unlisted_undead later i s unlisted;
-    }
+own_block : (mine theirs : List Id16) (log others : List Entry) (size : ℕ) (i : Id16) → AreApart mine theirs → Sound (history_of log) → Later mine log others → IsOwnBlock mine (history_of log) size i
+    → IsNewBlock theirs (history_of (log ++ others)) size i
+own_block mine theirs log others size i apart s later own =
+    let stays = own_block_stays mine log others size i s later.lawful own in
+    record { there = stays.there; not_mine = apart i own.is_mine; not_listed = stays.unlisted; not_dead = stays.not_dead }
 
 -- the publication of the manifest that was read, where it is still the last one
 own_lawful : (mine theirs : List Id16) (log others : List Entry) (p : State) (read : Latest) (plan : EditPlan) (moment : ℕ)
-    → Later mine log others → MayPublish mine log p read plan moment → IsReady read.manifest plan p.writer
+    → Sound (history_of log) → Later mine log others → MayPublish mine log p read plan moment → IsReady read.manifest plan p.writer
     → moment < 2 ^ 64 → IsId p.id → IsId p.writer → last_of (history_of (log ++ others)) ≡ Some read.manifest → AreApart mine theirs
     → IsLawful theirs (history_of (log ++ others)) (Published (made p read plan moment))
-own_lawful mine theirs log others p read plan moment later may ready small id writer last apart =
+own_lawful mine theirs log others p read plan moment s later may ready small id writer last apart =
     let u = later.untouched in
     published_is_lawful theirs (history_of (log ++ others)) read.manifest plan plan p.id p.writer moment later.sound last ready.passes (fills_itself plan) ready.fits small id writer
     (u.unpublished p.id may.id may.fresh) (apart p.id may.id) (apart p.writer may.writer)
-    (λ i listed unlisted. own_block mine theirs (history_of log) (history_of (log ++ others)) read.manifest.block i apart later.sound u (may.blocks i listed unlisted))
+    (λ i listed unlisted. own_block mine theirs log others read.manifest.block i apart s later (may.blocks i listed unlisted))
     (λ i swept. subst (λ (past : List Item). was_deleted past i ≡ true) (sym (history_after-append [] log others)) (deleted_later (history_of log) i others (may.swept i swept)))
 
 -- ---- what was read is the last manifest exactly where the object has its etag
@@ -152,7 +149,7 @@ lawful_where : (mine : List Id16) (before : List Entry) (p : State) (read : Late
 lawful_where mine before p read plan moment s ready small id writer may others later rising held theirs apart =
     let log : List Entry = before ++ others in
     let h = held_by log read (kept_stays log read later.sound rising (kept_longer before others read may.kept)) in
-    own_lawful mine theirs before others p read plan moment later may ready small id writer (h.is ∙ ap (λ (k : Manifest). Some k) (h.where_held held)) apart
+    own_lawful mine theirs before others p read plan moment s later may ready small id writer (h.is ∙ ap (λ (k : Manifest). Some k) (h.where_held held)) apart
 
 -- ---- the whole
 

@@ -16,6 +16,7 @@ use Rattle.bcv_dbmap.specs.Honest.{GrewHonestly}
 use Rattle.bcv_dbmap.specs.Kept.{IsKept}
 use Rattle.bcv_dbmap.specs.RequestGrowth.{RequestGrowth}
 use Rattle.bcv_dbmap.specs.Sound.{Sound}
+use Rattle.bcv_dbmap.proofs.KeptLaws.{Agrees, log_agrees, object_kept}
 use Rattle.bcv_store.specs.declared.store.Got.{Got}
 use Rattle.bcv_store.specs.declared.store.Got.TheVariants as got
 use Rattle.bcv_store.specs.Asked.{GetAnswers}
@@ -27,7 +28,6 @@ use Rattle.bcv_publish.specs.declared.unread.Unread.TheVariants as unread
 use Rattle.bcv_publish.specs.ManifestRead.{unlike, taken, accepted, ReadEnds, ManifestReadTold, ManifestReads, Accepts, ReadAnswered}
 use Rattle.bcv_publish.specs.State.{State}
 use Rattle.bcv_publish.proofs.Growth.{later_of, growth_of}
-use Rattle.bcv_publish.proofs.LastManifest.{Agrees, log_agrees, object_kept}
 
 -- ---- manifests that are accepted
 

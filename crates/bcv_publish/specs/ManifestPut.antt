@@ -11,7 +11,7 @@ use Rattle.bcv_base.specs.Faults.{Rose}
 use Rattle.bcv_base.specs.History.{history_of, last_of}
 use Rattle.bcv_base.specs.Ids.{has_id}
 use Rattle.bcv_base.specs.Log.{object_of}
-use Rattle.bcv_base.specs.ManifestRules.{MeetsRules, MeetsLimits, lists}
+use Rattle.bcv_base.specs.ManifestRules.{MeetsRules, MeetsLimits, IsShort, lists}
 use Rattle.bcv_dbmap.specs.declared.plan.EditPlan.{EditPlan}
 use Rattle.bcv_dbmap.specs.Applied.{applied, swept_ids, FitsPlan}
 use Rattle.bcv_dbmap.specs.Checked.{checked}
@@ -139,6 +139,7 @@ pub record IsMadeOf (p : State) (read : Latest) (plan : EditPlan) (moment : ℕ)
   pub made : m ≡ made p read plan moment
   pub rules : MeetsRules m
   pub limits : MeetsLimits m
+  pub short : IsShort m
 
 -- what is answered where the put is refused
 abbrev pub Refuses : State → Latest → PutEnd → State → Type 0

@@ -1,5 +1,5 @@
 //! One put of a manifest under a condition.
-ghost use Rattle.bcv_base.specs.ManifestRules.{MeetsRules, MeetsLimits};
+ghost use Rattle.bcv_base.specs.ManifestRules.{IsShort, MeetsLimits, MeetsRules};
 ghost use Rattle.bcv_publish.specs.ManifestAppend.{ManifestAppends};
 
 use bcv_base::{Manifest, ObjName};
@@ -17,6 +17,7 @@ pub(crate) fn append_manifest<S: Store>(
 ) -> Put
     requires rules { MeetsRules manifest.now }
     requires limits { MeetsLimits manifest.now }
+    requires short { IsShort manifest.now }
     ensures appends {
         ManifestAppends S.told (S.shown store.old) (S.shown store.new) condition manifest.now result
     }

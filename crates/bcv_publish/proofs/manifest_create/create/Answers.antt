@@ -16,6 +16,10 @@ pub append_manifest-answer-requires-clause-limits : goal.append_manifest-answer-
 append_manifest-answer-requires-clause-limits g c =
     (first_rules c.args.block c.args.retention c.args.id c.args.writer c.args.moment c.in-Ok.manifest c.requires (omega arith) (omega arith) c.bytes-id.ensures.id c.bytes-writer.ensures.id c.in-Ok.ensures).1
 
+pub append_manifest-answer-requires-clause-short : goal.append_manifest-answer-requires-clause-short
+append_manifest-answer-requires-clause-short g c =
+    (first_rules c.args.block c.args.retention c.args.id c.args.writer c.args.moment c.in-Ok.manifest c.requires (omega arith) (omega arith) c.bytes-id.ensures.id c.bytes-writer.ensures.id c.in-Ok.ensures).2
+
 pub returns-in-Err-clause-creates : goal.returns-in-Err-clause-creates
 returns-in-Err-clause-creates g c =
     create_creates g.S.Store.told (g.S.Store.shown c.args.store.now) (g.S.Store.shown c.args.store.now) c.args.block c.args.retention c.args.id c.args.writer c.args.moment _ answer.NoMemory created.NoMemory

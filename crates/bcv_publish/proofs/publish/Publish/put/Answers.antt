@@ -1,5 +1,5 @@
 use Rattle.std.proofs.Common.{ℕ, MatchOption, sym, subst, arith}
-use Rattle.bcv_publish.proofs.Made.{any_rules, any_limits, any_made, any_next}
+use Rattle.bcv_publish.proofs.Made.{any_rules, any_limits, any_short, any_made, any_next}
 use Rattle.bcv_publish.proofs.PutLaws.{any_puts, any_none}
 use Rattle.bcv_publish.proofs.publish.Publish.put.Goals as goal
 
@@ -8,6 +8,9 @@ append_manifest-answer-requires-clause-rules g c = any_rules c.args.self.now c.a
 
 pub append_manifest-answer-requires-clause-limits : goal.append_manifest-answer-requires-clause-limits
 append_manifest-answer-requires-clause-limits g c = any_limits c.args.self.now c.args.plan.now c.args.moment c.args.self.now.latest c.in-Ok.manifest c.in-Ok.ensures.made
+
+pub append_manifest-answer-requires-clause-short : goal.append_manifest-answer-requires-clause-short
+append_manifest-answer-requires-clause-short g c = any_short c.args.self.now c.args.plan.now c.args.moment c.args.self.now.latest c.in-Ok.manifest c.in-Ok.ensures.made
 
 pub end-requires-clause-next : goal.end-requires-clause-next
 end-requires-clause-next g c = any_next c.args.self.now c.args.plan.now c.args.moment c.args.self.now.latest c.in-Ok.manifest c.in-Ok.ensures.made

@@ -17,7 +17,9 @@ use Rattle.bcv_base.specs.LogLaws.{object_after-append}
 use Rattle.bcv_base.specs.ManifestGrammar.{manifest_of}
 use Rattle.bcv_base.specs.Versions.{Reads}
 use Rattle.bcv_dbmap.specs.Sound.{Sound, KeepsManifest}
-use Rattle.bcv_dbmap.specs.Kept.{IsKept}
+use Rattle.bcv_dbmap.specs.Kept.{IsKept, Stays}
+use Rattle.bcv_dbmap.specs.ManifestLaws.{ObjectIsKept, KeptStays, KeptIsPublished, KeptIsStillOrBehind}
+use Rattle.bcv_dbmap.specs.Outlived.{IsPublished}
 
 -- what holds of each item of a later history held of those before
 always_before : (P : List Item → Item → Type 0) (past : List Item) (log : List Entry) → Always P (history_after past log) → Always P past
@@ -80,7 +82,7 @@ put_found o (entry.Deleted own (object.Block i) at ∷ es) x h =
     elim (put_found o es x h) [ inl e ↦ inl e | inr p ↦ inr (put_later (entry.Deleted own (object.Block i) at) es x p) ]
 
 -- what was read of the object is kept
-pub object_kept : (log : List Entry) (x : Object) (m : Manifest) → object_of object.Manifest log ≡ Some x → manifest_of x.bytes ≡ Ok m → IsKept log (record { manifest = m; etag = x.etag })
+pub object_kept : ObjectIsKept
 object_kept log x m there reads =
     elim (put_found None log x there) [
       | inl e ↦ absurd (cc)
@@ -88,7 +90,7 @@ object_kept log x m there reads =
     ]
 
 -- what is kept is kept behind further entries
-pub kept_longer : (log more : List Entry) (l : Latest) → IsKept log l → IsKept (log ++ more) l
+pub kept_longer : KeptStays
 kept_longer log more l k = record {
   own = k.own;
   bytes = k.bytes;
@@ -99,25 +101,6 @@ kept_longer log more l k = record {
 }
 
 -- ---- what was read, and the last manifest
-
--- it is the last one, and the object has its etag
-pub record IsStill (read : Latest) (o : Option Object) (last : Option Manifest) : Type 0 where
-  pub there : Object
-  pub is : o ≡ Some there
-  pub etag : there.etag ≡ read.etag
-  pub same : last ≡ Some read.manifest
-
--- it is behind: etag and number have risen
-pub record IsBehind (read : Latest) (o : Option Object) (last : Option Manifest) : Type 0 where
-  pub there : Object
-  pub is : o ≡ Some there
-  pub etag : read.etag < there.etag
-  pub manifest : Manifest
-  pub last_is : last ≡ Some manifest
-  pub number : read.manifest.number < manifest.number
-
-abbrev pub Stays : Latest → Option Object → Option Manifest → Type 0
-Stays read o last = IsStill read o last ⊎ IsBehind read o last
 
 -- a later put of the manifest
 put_behind : (read : Latest) (bytes : List ℕ) (etag : ℕ) (past : List Item) (r : Result Manifest ℕ) → read.etag < etag → read.manifest.number ≤ count_of past → Reads past (as_read r)
@@ -166,7 +149,7 @@ split_stays read own bytes front rest e rising reads keeps =
     just_put read bytes past (Err at) e is = absurd is
 
 -- what is kept of a sound log is its last manifest, or is behind it
-pub kept_stays : (log : List Entry) (read : Latest) → Sound (history_of log) → are_rising log ≡ true → IsKept log read → Stays read (object_of object.Manifest log) (last_of (history_of log))
+pub kept_stays : KeptIsStillOrBehind
 kept_stays log read s rising k =
     let put : Entry = entry.Put k.own object.Manifest k.bytes read.etag in
     let split : List Entry = k.front ++ put ∷ k.rest in
@@ -177,3 +160,15 @@ kept_stays log read s rising k =
     subst (λ (o : Option Object). Stays read o (last_of (history_of log))) (sym objects)
     (subst (λ (past : List Item). Stays read (object_after object.Manifest (Some (record { bytes = k.bytes; etag = read.etag })) k.rest) (last_of past)) (sym histories)
     (split_stays read k.own k.bytes k.front k.rest k.read (sym (ap are_rising k.put) ∙ rising) (subst (Always Reads) histories s.reads) (subst (Always KeepsManifest) histories s.keeps)))
+
+-- what was published stays so, and what is kept was published
+published_later : (m : Manifest) (past : List Item) (log : List Entry) → IsPublished m past → IsPublished m (history_after past log)
+published_later m past [] is = is
+published_later m past (e ∷ es) is = published_later m (item_of e ∷ past) es (inr is)
+
+pub kept_published : KeptIsPublished
+kept_published log l k =
+    let put : Entry = entry.Put k.own object.Manifest k.bytes l.etag in
+    let split : history_of log ≡ history_after (as_read (manifest_of k.bytes) ∷ history_of k.front) k.rest = ap history_of k.put ∙ history_after-append [] k.front (put ∷ k.rest) in
+    let first : IsPublished l.manifest (as_read (manifest_of k.bytes) ∷ history_of k.front) = inl (ap as_read k.read) in
+    subst (IsPublished l.manifest) (sym split) (published_later l.manifest (as_read (manifest_of k.bytes) ∷ history_of k.front) k.rest first)
