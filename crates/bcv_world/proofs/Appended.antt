@@ -38,7 +38,6 @@ use Rattle.bcv_world.specs.declared.world.World.{World}
 use Rattle.bcv_world.specs.Moves.{Runs, state_of}
 use Rattle.bcv_world.specs.Seen.{number_in, dbs_in, block_in, retention_in, seen, seen_known, seen_pending, seen_task, seen_txn, seen_txns}
 use Rattle.bcv_world.specs.Stands.{IsDrawn, IsUnpublished, Fits, FitsJob, FitsTask, FitsTxn, IsGood, job_ids, publication_ids}
-use Rattle.bcv_world.proofs.OwnGrowth.{AddsOwn}
 use Rattle.bcv_world.proofs.DrawnNames.{drawn_later, next_drawn}
 use Rattle.bcv_world.proofs.Going.{fits_out}
 use Rattle.bcv_world.proofs.Here.{here_at}

@@ -51,7 +51,7 @@ own_by_more : (mine more : List Id16) → ((i : Id16) → has_id i mine ≡ true
     → AreOwnBlocks more past block size pages n ids
 own_by_more mine more has past block size pages n [] own = tt
 own_by_more mine more has past block size pages n (i ∷ is) own =
-    let one : IsOwnBlock more past block i = record { is_mine = has i own.0.is_mine; there = own.0.there; unlisted = own.0.unlisted } in
+    let one : IsOwnBlock more past block i = record { is_mine = has i own.0.is_mine; there = own.0.there; unlisted = own.0.unlisted; not_dead = own.0.not_dead } in
     (one, own.1, own_by_more mine more has past block size pages (suc n) is own.2)
 
 -- blocks that are mine are mine where more is
