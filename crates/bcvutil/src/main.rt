@@ -9,7 +9,7 @@ mod fault;
 
 use bcv_base::{StdSink, StdSource};
 use bcv_top::{Status, bcv_top};
-use fault::Fault;
+use fault::{Fault, Folder};
 use std::env;
 use std::io::{self, ErrorKind, Write};
 use std::process::ExitCode;
@@ -77,15 +77,11 @@ fn run(rt: &HostRuntime, words: &[String]) -> Result<(), Fault> {
     match words {
         [_, word] if word.as_str() == "--help" => print(rt, HELP),
         [_, word] if word.as_str() == "--version" => print(rt, VERSION),
-        [_, store, client, _, ..] => {
-            if store.as_str() != "-" {
-                return Err(Fault::Store(copied(store)?));
-            }
-            if client.as_str() != "-" {
-                return Err(Fault::Client(copied(client)?));
-            }
-            command(rt, &words[3..])
-        }
+        [_, store, client, _, ..] => match fault::unusable(store.as_bytes(), client.as_bytes()) {
+            Some(Folder::Store) => Err(Fault::Store(copied(store)?)),
+            Some(Folder::Client) => Err(Fault::Client(copied(client)?)),
+            None => command(rt, &words[3..]),
+        },
         _ => command(rt, &[]),
     }
 }
@@ -95,10 +91,8 @@ fn command(rt: &HostRuntime, words: &[String]) -> Result<(), Fault> {
     let mut input = StdSource::new(rt.reader());
     let mut output = StdSink::new(io::writer(rt));
     let status = bcv_top(rt.alloc(), words, &mut input, &mut output);
-    if output.inner.flush().is_err() {
-        return Err(Fault::WriteFault);
-    }
-    fault::of(status)
+    let flushed = output.inner.flush().is_ok();
+    fault::ended(status, flushed)
 }
 
 fn print(rt: &HostRuntime, text: &str) -> Result<(), Fault> {
