@@ -1,8 +1,8 @@
-ghost use Rattle.std.specs.Prelude.{◌≡◌, ◌<◌, ◌≤◌, ◌^◌, ◌++◌, ℕ, length, true, Ok, OnOk, OnErr, IfOk};
+ghost use Rattle.std.specs.Prelude.{◌≡◌, ◌<◌, ◌≤◌, ◌^◌, ◌++◌, length, Ok, OnOk, OnErr, IfOk};
 ghost use Rattle.bcv_base.specs.ManifestGrammar.{manifest_of};
 ghost use Rattle.std.specs.Int.{w8, w32, w64, to_be_bytes};
 ghost use Rattle.std.specs.List.{flat_map};
-ghost use Rattle.bcv_base.specs.ManifestRules.{MeetsRules, MeetsLimits, IsShort, MeetsEntryRules, is_block_size, manifest_length};
+ghost use Rattle.bcv_base.specs.ManifestRules.{MeetsRules, MeetsLimits, IsShort, manifest_length};
 ghost use Rattle.bcv_base.specs.ManifestText.{manifest_text, entry_text, writer_text, dead_text, id_text, counted};
 ghost use Rattle.bcv_manifest.specs.Head.{head_text};
 
@@ -146,7 +146,6 @@ pub fn write_manifest(alloc: Global, manifest: &Manifest) -> Result<Vec<u8>, All
 
 /// Appends the one spelling of a database's entry; where memory runs out, nothing.
 pub fn write_entry(alloc: Global, entry: &DbEntry, into: &mut Vec<u8>) -> Result<(), AllocError>
-    requires { (block : ℕ) × (is_block_size block ≡ true) × MeetsEntryRules block entry.now }
     ensures ok { OnOk result (into.new.items ≡ into.old.items ++ entry_text entry.now) }
     ensures err { OnErr result (into.new.items ≡ into.old.items) }
 {

@@ -77,11 +77,14 @@ kept_name l = l.entry.name
 abbrev pub nothing_kept : Kept
 nothing_kept = record { me = None; locals = []; pending = None }
 
+-- the databases with others in the place of the first of a name
+abbrev pub replaced_local : (Local → List Local) → List ℕ → List Local → List Local
+replaced_local change db [] = []
+replaced_local change db (l ∷ ls) = if bytes_eq (kept_name l) db then change l ++ ls else l ∷ replaced_local change db ls
+
 -- the databases with one more commit of one of them
 abbrev pub with_local_commit : List ℕ → Commit → List Local → List Local
-with_local_commit db c [] = []
-with_local_commit db c (l ∷ ls) =
-    if bytes_eq (kept_name l) db then record l { commits = l.commits ++ c ∷ [] } ∷ ls else l ∷ with_local_commit db c ls
+with_local_commit db c ls = replaced_local (λ l. record l { commits = l.commits ++ c ∷ [] } ∷ []) db ls
 
 -- a database over the base of an upload, where it has commits that the upload did not take
 abbrev pub rebased : ℕ → Uploading → List Commit → List Local
@@ -90,9 +93,7 @@ rebased number u (c ∷ cs) = record { entry = u.entry; number = number; block =
 
 -- the databases after an upload that was published as the version of this number: the commits that it took leave
 abbrev pub with_uploaded : ℕ → Uploading → List Local → List Local
-with_uploaded number u [] = []
-with_uploaded number u (l ∷ ls) =
-    if bytes_eq (kept_name l) u.entry.name then rebased number u (drop u.count l.commits) ++ ls else l ∷ with_uploaded number u ls
+with_uploaded number u ls = replaced_local (λ l. rebased number u (drop u.count l.commits)) u.entry.name ls
 
 -- the databases after a publication of which this was the upload
 abbrev pub with_published : ℕ → Option Uploading → List Local → List Local

@@ -1,0 +1,9 @@
+pub mod Commits
+pub mod Entries
+pub mod Folded
+pub mod Fronts
+pub mod NoteSizes
+pub mod Pages
+pub mod Placing
+pub mod ReadNotes
+pub mod Uploads

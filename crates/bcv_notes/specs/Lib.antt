@@ -1,0 +1,3 @@
+pub mod KeptBy
+pub mod NoteGrammar
+pub mod Reading

@@ -1,0 +1,19 @@
+//! Laws of the notes' bytes, for the crates above.
+
+ghost use Rattle.bcv_model.specs.NoteRules.{SizesAgree, TextsDiffer};
+ghost use Rattle.bcv_notes.specs.KeptBy.{FoldsOnce};
+
+/// Shows that a note which may stand has as many bytes as its size says.
+pub fn sizes_agree()
+    ensures { SizesAgree }
+{}
+
+/// Shows that no two notes which may stand at one place have the same bytes.
+pub fn texts_differ()
+    ensures { TextsDiffer }
+{}
+
+/// Shows that the items of a log come to one thing.
+pub fn folds_once()
+    ensures { FoldsOnce }
+{}

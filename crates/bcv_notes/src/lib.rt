@@ -1,0 +1,26 @@
+//! Notes of a client's log as bytes, both ways, and what a client keeps by them.
+//!
+//! Where a note may stand depends on what is kept before it, and so does how a commit is read. So an item is read where
+//! something is kept: as the one note that may stand there and has these bytes, or as none.
+#![tactic(auto)]
+
+mod fields;
+mod folding;
+mod keeping;
+mod laws;
+mod locals;
+mod parts;
+mod reading;
+mod stop;
+mod writing;
+
+pub use folding::after_note;
+pub use keeping::{Fold, keep_all, nothing_kept};
+pub use laws::{folds_once, sizes_agree, texts_differ};
+pub use reading::read_note;
+pub use writing::{
+    committed_note, done_note, first_note, intent_note, me_note, revert_note, void_note,
+};
+
+#[cfg(test)]
+mod tests;
