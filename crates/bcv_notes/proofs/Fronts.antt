@@ -1,12 +1,8 @@
 -- Readers of fronts and their spellings: what is read was spelled so, and what is spelled so is read.
-use Rattle.std.proofs.Common.{◌≡◌, ℕ, zero, suc, ◌+◌, ◌^◌, ◌<◌, ◌≤◌, Bool, true, false, cond, List, [], ◌∷◌, ◌++◌, length, Option, Some, None, Result, Ok, Err, refl, sym, ap, subst, ◌∙◌, append_assoc, arith}
-use Rattle.std.specs.Prelude.{◌&&◌, ◌==◌, nat_lt, nat_le}
-use Rattle.std.specs.Int.{w8, w32, w64, to_be_bytes}
-use Rattle.std.specs.List.{flat_map}
-use Rattle.std.proofs.lemmas.Bool.{leb-true, le-leb, and_parts}
+use Rattle.std.proofs.Common.{◌≡◌, ℕ, List, ◌++◌, Option, Some, None, Ok, Err, refl, ap}
 use Rattle.std.proofs.lemmas.Option.{same_Some}
 use Rattle.bcv_base.specs.ManifestGrammar.{Read}
-use Rattle.bcv_manifest.proofs.Readers.{IsBytes, IsReader, Takes, Takes-then}
+use Rattle.bcv_manifest.proofs.Readers.{IsBytes, IsReader, Takes}
 use Rattle.bcv_notes.specs.NoteGrammar.{Front, ◌>>=◌, front}
 
 -- a reader and a spelling of the values with a property, each the other's way back

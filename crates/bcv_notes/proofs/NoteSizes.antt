@@ -1,5 +1,5 @@
 -- How long the parts of notes are.
-use Rattle.std.proofs.Common.{◌≡◌, ◌∙◌, ℕ, ◌+◌, ◌*◌, List, [], ◌∷◌, ◌++◌, length, Option, Some, None, refl, sym, ap, arith}
+use Rattle.std.proofs.Common.{◌≡◌, ℕ, ◌+◌, ◌*◌, List, [], ◌∷◌, ◌++◌, length, Option, Some, None, refl, arith}
 use Rattle.std.proofs.lemmas.List.{length-append}
 use Rattle.std.specs.Prelude.{IfSome}
 use Rattle.std.specs.Int.{w8, w32, w64, to_be_bytes}
@@ -12,12 +12,10 @@ use Rattle.bcv_base.specs.ManifestRules.{MeetsEntryRules, entry_length}
 use Rattle.bcv_base.specs.ManifestText.{entry_text, id_text}
 use Rattle.bcv_model.specs.declared.ask.Commit.{Commit}
 use Rattle.bcv_model.specs.declared.kept.Kept.{Kept}
-use Rattle.bcv_model.specs.declared.kept.PendingPub.{PendingPub}
 use Rattle.bcv_model.specs.declared.kept.Uploading.{Uploading}
-use Rattle.bcv_model.specs.declared.note.Note.{Note}
 use Rattle.bcv_model.specs.declared.note.Note.TheVariants.{Me, First, Committed, Intent, Done, Void, Revert}
-use Rattle.bcv_model.specs.Notes.{numbered_page, commit_text, name_field, upload_text, note_text, pages_size, commit_size, upload_size, note_size}
-use Rattle.bcv_model.specs.NoteRules.{MayStand, MayUpload, SizesAgree}
+use Rattle.bcv_model.specs.Notes.{numbered_page, commit_text, name_field, upload_text, pages_size, commit_size, upload_size}
+use Rattle.bcv_model.specs.NoteRules.{MayUpload, SizesAgree}
 
 pages_len : (ps : List (ℕ × Page)) → length (flat_map numbered_page ps) ≡ pages_size ps
 pages_len [] = refl

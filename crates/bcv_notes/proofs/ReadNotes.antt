@@ -1,6 +1,6 @@
 -- Notes: what is read may stand and was spelled so, and what may stand and is spelled so is read.
-use Rattle.std.proofs.Common.{◌≡◌, ℕ, suc, ◌+◌, ◌^◌, ◌<◌, ◌≤◌, Bool, true, false, cond, List, [], ◌∷◌, ◌++◌, length, Option, Some, None, refl, sym, ap, subst, ◌∙◌, append_assoc, append-nil, arith}
-use Rattle.std.specs.Prelude.{◌&&◌, ◌==◌, nat_le, is_some, is_none, IsSome, IfSome}
+use Rattle.std.proofs.Common.{◌≡◌, ℕ, suc, ◌^◌, ◌<◌, Bool, true, false, cond, List, [], ◌∷◌, ◌++◌, length, Option, Some, None, refl, sym, ap, subst, ◌∙◌, append_assoc, append-nil, arith}
+use Rattle.std.specs.Prelude.{◌&&◌, ◌==◌, nat_le, is_some, is_none, IsSome}
 use Rattle.std.specs.Cmp.{first_so, second_so}
 use Rattle.std.specs.Cmp.Derive.{both_true}
 use Rattle.std.specs.Int.{w32, w64, to_be_bytes}
@@ -10,12 +10,10 @@ use Rattle.std.proofs.lemmas.Option.{same_Some}
 use Rattle.std.proofs.lemmas.Slice.Eq.{bytes_eq-Decides}
 use Rattle.bcv_base.specs.declared.id.Id16.{Id16}
 use Rattle.bcv_base.specs.declared.manifest.DbEntry.{DbEntry}
-use Rattle.bcv_base.specs.Ids.{IsId, id_eq}
+use Rattle.bcv_base.specs.Ids.{IsId}
 use Rattle.bcv_base.specs.Keyed.{keyed}
 use Rattle.bcv_base.specs.ManifestGrammar.{such, number_at, id_at, entry_at}
-use Rattle.bcv_base.specs.ManifestRules.{is_block_size}
 use Rattle.bcv_base.specs.ManifestText.{entry_text, id_text}
-use Rattle.bcv_base.specs.Names.{is_name}
 use Rattle.bcv_model.specs.declared.ask.Commit.{Commit}
 use Rattle.bcv_model.specs.declared.kept.Kept.{Kept}
 use Rattle.bcv_model.specs.declared.kept.Local.{Local}
@@ -26,7 +24,7 @@ use Rattle.bcv_model.specs.declared.note.Note.TheVariants.{Me, First, Committed,
 use Rattle.bcv_model.specs.Notes.{kept_name, note_text, name_field, commit_text, upload_text}
 use Rattle.bcv_model.specs.NoteRules.{MayStand, IsPendingAs, IsVersionNumber, TextsDiffer}
 use Rattle.bcv_manifest.proofs.Readers.{IsBytes, Takes, Takes-then, such_reader, number_reader, id_reader, wide64}
-use Rattle.bcv_notes.specs.NoteGrammar.{Front, ◌>>=◌, front, name_at, commit_at, upload_at, ends_at, is_new_local, is_pending_as, me_at, first_at, committed_at, intent_at, done_at, void_at, revert_at, kind_at, note_at}
+use Rattle.bcv_notes.specs.NoteGrammar.{◌>>=◌, front, commit_at, upload_at, ends_at, is_new_local, is_pending_as, me_at, first_at, committed_at, intent_at, done_at, void_at, revert_at, kind_at, note_at}
 use Rattle.bcv_notes.proofs.Fronts.{IsFront, of_reader, step_to, found_to, goes}
 use Rattle.bcv_notes.proofs.Commits.{name_reader, commit_reader}
 use Rattle.bcv_notes.proofs.Uploads.{block_field, block_small, entry_field, upload_reader}

@@ -1,5 +1,5 @@
 -- Entries and uploads in notes: each is read in one way.
-use Rattle.std.proofs.Common.{◌≡◌, ℕ, ◌+◌, ◌^◌, ◌<◌, ◌≤◌, Bool, true, false, cond, List, [], ◌∷◌, ◌++◌, length, Option, Some, None, refl, sym, ap, subst, ◌∙◌, append_assoc, arith}
+use Rattle.std.proofs.Common.{◌≡◌, ℕ, ◌^◌, ◌<◌, ◌≤◌, Bool, true, false, cond, List, [], ◌∷◌, ◌++◌, length, Option, Some, None, refl, sym, ap, subst, ◌∙◌, append_assoc, arith}
 use Rattle.std.specs.Prelude.{◌&&◌, ◌==◌, nat_le, IfSome}
 use Rattle.std.specs.Cmp.{first_so, second_so}
 use Rattle.std.specs.Cmp.Derive.{both_true}
@@ -9,7 +9,7 @@ use Rattle.std.proofs.lemmas.Option.{same_Some}
 use Rattle.bcv_base.specs.declared.manifest.DbEntry.{DbEntry}
 use Rattle.bcv_base.specs.Keyed.{keyed}
 use Rattle.bcv_base.specs.ManifestGrammar.{such, number_at, entry_at}
-use Rattle.bcv_base.specs.ManifestRules.{db_name, is_block_size, MeetsEntryRules}
+use Rattle.bcv_base.specs.ManifestRules.{is_block_size, MeetsEntryRules}
 use Rattle.bcv_base.specs.ManifestText.{entry_text}
 use Rattle.bcv_model.specs.declared.kept.Kept.{Kept}
 use Rattle.bcv_model.specs.declared.kept.Local.{Local}
@@ -17,8 +17,7 @@ use Rattle.bcv_model.specs.declared.kept.Uploading.{Uploading}
 use Rattle.bcv_model.specs.Notes.{kept_name, upload_text}
 use Rattle.bcv_model.specs.NoteRules.{MayUpload, IsLocal}
 use Rattle.bcv_manifest.proofs.Laws.{entry_reader}
-use Rattle.bcv_manifest.proofs.Lists.{Rising}
-use Rattle.bcv_manifest.proofs.Readers.{IsBytes, IsReader, Takes, Takes-then, such_reader, number_reader, wide8, wide32, wide64}
+use Rattle.bcv_manifest.proofs.Readers.{IsBytes, Takes, Takes-then, such_reader, number_reader, wide8, wide32, wide64}
 use Rattle.bcv_notes.specs.NoteGrammar.{Front, ◌>>=◌, front, is_upload_of, may_upload, taken_where, uploading_at, flagged, upload_at}
 use Rattle.bcv_notes.proofs.Fronts.{IsFront, of_reader, step_to, goes}
 

@@ -3,7 +3,6 @@ use Rattle.std.specs.Prelude.{ℕ, zero, suc, Bool, true, false, ◌&&◌, ◌==
 use Rattle.std.specs.Int.{w8, w32, w64}
 use Rattle.std.specs.List.{list_all}
 use Rattle.bcv_base.specs.declared.id.Id16.{Id16}
-use Rattle.bcv_base.specs.declared.manifest.DbEntry.{DbEntry}
 use Rattle.bcv_base.specs.Ids.{id_eq}
 use Rattle.bcv_base.specs.Image.{Page}
 use Rattle.bcv_base.specs.Keyed.{keyed}

@@ -1,7 +1,6 @@
 use Rattle.std.proofs.Common.{List, length, sym, ap, subst, ◌∙◌}
-use Rattle.std.specs.List.{insert, remove}
+use Rattle.std.specs.List.{insert}
 use Rattle.std.proofs.lemmas.Bool.{eqb-true, eqb-false}
-use Rattle.bcv_model.specs.declared.ask.Commit.{Commit}
 use Rattle.bcv_model.specs.declared.kept.Local.{Local}
 use Rattle.bcv_model.specs.Notes.{with_uploaded}
 use Rattle.bcv_notes.proofs.Placing.{IsFirstNamed, uploaded_all, uploaded_some}

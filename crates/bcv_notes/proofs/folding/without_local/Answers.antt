@@ -1,4 +1,4 @@
-use Rattle.std.proofs.Common.{rules, ◌≡◌, ◌∙◌, Bool, not, refl, ap}
+use Rattle.std.proofs.Common.{rules, ◌∙◌, not, ap}
 use Rattle.std.specs.Str.{bytes_eq}
 use Rattle.bcv_base.specs.Keyed.{without_keyed}
 use Rattle.std.proofs.lemmas.Fn.{filter_same}

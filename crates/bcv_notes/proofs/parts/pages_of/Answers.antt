@@ -1,4 +1,3 @@
-use Rattle.std.proofs.Common.{length}
 use Rattle.bcv_notes.specs.NoteGrammar.{pages_at}
 use Rattle.bcv_notes.proofs.Pages.{goes_on, ends, is_done}
 use Rattle.bcv_notes.proofs.parts.pages_of.Goals as goal
