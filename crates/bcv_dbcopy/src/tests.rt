@@ -59,6 +59,7 @@ impl Few {
 
 impl Store for Few {
     ghost use Rattle.std.specs.Prelude.{[]};
+    ghost use Rattle.std.proofs.Common.{arith};
     ghost use Rattle.bcv_store.specs.StoreShown.{StoreShown};
 
     ghost told = { record { tells = ⊥; alone = ⊥; plans = ⊥ } };
@@ -119,6 +120,12 @@ impl Store for Few {
     }
 
     ghost rising = { λ store told. absurd told };
+
+    ghost same = { λ store. tt };
+
+    ghost through = { λ first second third earlier later. tt };
+
+    ghost counted = { λ old new reached. omega arith };
 }
 
 fn id(number: u8) -> Id16 {

@@ -26,10 +26,8 @@ pub fn create<S: Store>(
 ) -> Created
     requires { is_block_size block ≡ true }
     ensures leaves { CreateLeaves (first_manifest block retention id writer moment) result }
-    ensures creates {
-        ManifestCreates S.told (S.shown store.old) (S.shown store.new)
-            writer id (first_manifest block retention id writer moment) result
-    }
+    ensures creates { ManifestCreates S.told (S.shown store.old) (S.shown store.new)
+        writer id (first_manifest block retention id writer moment) result }
     ensures reached { S.reaches store.old store.new }
 {
     let _writer = writer.bytes();

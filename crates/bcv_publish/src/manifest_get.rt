@@ -23,10 +23,8 @@ impl Publish {
         plan: &EditPlan,
     ) -> Work
         ensures leaves { GetLeaves seen.now plan.now self.old result self.new }
-        ensures gets {
-            ManifestGets S.told (S.shown store.old) (S.shown store.new)
-                seen.now plan.now self.old result self.new
-        }
+        ensures gets { ManifestGets S.told (S.shown store.old) (S.shown store.new)
+            seen.now plan.now self.old result self.new }
         ensures reached { S.reaches store.old store.new }
     {
         match self.read(alloc, store, seen) {

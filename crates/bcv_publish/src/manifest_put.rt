@@ -33,15 +33,11 @@ impl Publish {
     ) -> PutEnd
         requires ready { MatchOption self.old.latest ⊥ (λ read. IsReady read.manifest plan.now self.old.writer) }
         requires few { length self.old.refused < 8 }
-        ensures leaves {
-            MatchOption self.old.latest ⊥ (λ read.
-                PutLeaves plan.now moment self.old read result self.new)
-        }
-        ensures puts {
-            MatchOption self.old.latest ⊥ (λ read.
-                ManifestPuts S.told (S.shown store.old) (S.shown store.new)
-                    self.old read plan.now moment result self.new)
-        }
+        ensures leaves { MatchOption self.old.latest ⊥ (λ read.
+            PutLeaves plan.now moment self.old read result self.new) }
+        ensures puts { MatchOption self.old.latest ⊥ (λ read.
+            ManifestPuts S.told (S.shown store.old) (S.shown store.new)
+            self.old read plan.now moment result self.new) }
         ensures reached { S.reaches store.old store.new }
     {
         let manifest = match self.made(alloc, plan, moment) {

@@ -68,13 +68,7 @@ impl Publish {
     }
 
     // The manifest that the bytes are, where it follows what was seen.
-    fn accept(
-        &self,
-        alloc: Global,
-        bytes: &[u8],
-        etag: u64,
-        seen: &Seen,
-    ) -> Result<Latest, Unread>
+    fn accept(&self, alloc: Global, bytes: &[u8], etag: u64, seen: &Seen) -> Result<Latest, Unread>
         ensures taken { IfOk result (λ latest. IsTaken self.now seen.now latest) }
         ensures accepts { Accepts (manifest_of bytes.now) etag seen.now self.now result }
     {

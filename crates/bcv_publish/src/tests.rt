@@ -2,7 +2,7 @@ ghost use Rattle.std.specs.Prelude.{◌≡◌, ◌<◌, ◌≤◌, ◌+◌, ℕ,
 ghost use Rattle.bcv_dbmap.specs.Applied.{FitsPlan};
 
 use super::*;
-use bcv_base::{Id16, ObjName, Seen, Seq};
+use bcv_base::{CountNames, Id16, ObjName, Seen, Seq};
 use bcv_dbmap::EditPlan;
 use bcv_store::{Cond, Del, Got, Listed, Put, Store};
 use std::alloc::Global;
@@ -21,8 +21,8 @@ const SEEN: Seen = Seen {
     number: 0,
 };
 
-// A store that has the manifest alone, with the number of its puts as its etag, and tells nothing. A put that is to fail
-// has its effect.
+// A store of one object, whatever its name, with the number of its puts as its etag. It tells nothing. A put that is to
+// fail has its effect.
 #[derive(Drop)]
 struct OneObject {
     bytes: Vec<u8>,
@@ -33,6 +33,7 @@ struct OneObject {
 
 impl Store for OneObject {
     ghost use Rattle.std.specs.Prelude.{◌≤◌, []};
+    ghost use Rattle.std.proofs.Common.{arith};
     ghost use Rattle.bcv_store.specs.StoreShown.{StoreShown};
 
     ghost told = { record { tells = ⊥; alone = ⊥; plans = ⊥ } };
@@ -69,7 +70,11 @@ impl Store for OneObject {
 
     fn put(&mut self, alloc: Global, name: &ObjName, cond: Cond, bytes: &[u8]) -> Put {
         let _ = name;
-        if cond != Cond::Match(self.etag) {
+        let holds = match cond {
+            Cond::Absent => self.etag == 0,
+            Cond::Match(etag) => self.etag == etag,
+        };
+        if !holds {
             return Put::Refused;
         }
         self.bytes = match Vec::from_slice(alloc, bytes) {
@@ -99,6 +104,12 @@ impl Store for OneObject {
     }
 
     ghost rising = { λ store told. absurd told };
+
+    ghost same = { λ store. omega arith };
+
+    ghost through = { λ first second third earlier later. omega (arith, earlier, later) };
+
+    ghost counted = { λ old new reached. reached };
 }
 
 fn id(number: u8) -> Id16 {
@@ -235,6 +246,82 @@ fn what_a_get_refuses(rt: HostRuntime) -> Result<(), Fail> {
             publication.get(alloc, &mut store, &seen, &plan),
             answer,
             "{block:?} {number}"
+        );
+    }
+    Ok(())
+}
+
+// An empty store.
+fn empty(alloc: Global) -> OneObject {
+    OneObject {
+        bytes: Vec::new(alloc),
+        etag: 0,
+        fails: false,
+        faults: 0,
+    }
+}
+
+// A container with blocks of 1,024 bytes.
+fn made(alloc: Global, store: &mut OneObject) -> Created {
+    create(alloc, store, 1024, 100, id(1), id(2), 5)
+}
+
+#[test]
+fn created_once(rt: HostRuntime) -> Result<(), Fail> {
+    let alloc = rt.alloc();
+    let mut store = empty(alloc);
+    let Created::Done(latest) = made(alloc, &mut store) else {
+        return Err(Fail::from("a container is created"));
+    };
+    assert_eq!(rt; latest.etag, 1);
+    assert_eq!(rt; latest.manifest.number, 1);
+    assert_eq!(rt; latest.manifest.block, 1024);
+    assert_eq!(rt; latest.manifest.moment, 5);
+    let again = made(alloc, &mut store);
+    assert!(rt; matches!(again, Created::Exists));
+    Ok(())
+}
+
+#[test]
+fn a_block_under_a_drawn_name(rt: HostRuntime) -> Result<(), Fail> {
+    let alloc = rt.alloc();
+    let mut store = empty(alloc);
+    let mut names = CountNames::new();
+    let mut ids = Vec::new(alloc);
+    let end = put_named(alloc, &mut store, &mut names, b"block", &mut ids);
+    assert_eq!(rt; end, BlockEnd::Stored);
+    let end = put_named(alloc, &mut store, &mut names, b"block", &mut ids);
+    assert_eq!(rt; end, BlockEnd::NameTaken);
+    assert_eq!(rt; end.work(), Work::NameTaken);
+    assert_eq!(rt; ids.len(), 1);
+    Ok(())
+}
+
+// The id of fifteen zeros and a number.
+fn small_id(number: u8) -> Id16 {
+    Id16([0, 0, 0, 0, 0, 0, 0, 0, 0, 0, 0, 0, 0, 0, 0, number])
+}
+
+#[test]
+fn what_became_of_a_publication(rt: HostRuntime) -> Result<(), Fail> {
+    let alloc = rt.alloc();
+    let rows = [
+        (1, None, 1, 1, 3, Resolved::At(1)),
+        (1, Some(1024), 0, 1, 4, Resolved::Voided),
+        (1, None, 1, 2, 3, Resolved::Voided),
+        (0, None, 1, 1, 3, Resolved::Voided),
+        (1, None, 2, 1, 3, Resolved::BadManifest { at: 8 }),
+        (1, Some(512), 1, 1, 3, Resolved::BadManifest { at: 24 }),
+    ];
+    for (etag, block, number, writer, last, answer) in rows {
+        let mut store = stored(alloc)?;
+        store.etag = etag;
+        let seen = Seen { block, number };
+        let resolved = resolve(alloc, &mut store, &seen, &small_id(writer), &small_id(last));
+        assert_eq!(rt;
+            resolved,
+            answer,
+            "{etag} {block:?} {number} {writer} {last}"
         );
     }
     Ok(())
