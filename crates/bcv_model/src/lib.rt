@@ -10,6 +10,7 @@ mod event;
 mod kept;
 mod reply;
 mod spec;
+mod verb;
 
 pub use ask::{Ask, Commit};
 pub use bcv_base::Outcome;
@@ -17,3 +18,4 @@ pub use event::{Act, Event};
 pub use kept::{Kept, Local, PendingPub, Uploading};
 pub use reply::{Reply, Row, Said};
 pub use spec::WorldSpec;
+pub use verb::Verb;
