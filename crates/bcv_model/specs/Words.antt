@@ -94,10 +94,10 @@ padded page_size bytes = bytes ++ replicate (page_size - length bytes) 0
 abbrev pub page_of_text : ℕ → List ℕ → Option Page
 page_of_text page_size w = bytes_of_text page_size w >>= λ bytes. Some (padded page_size bytes)
 
--- what stands before a word's first `=` as a page number above another one, and what stands after it as a page's text, unpadded
+-- a page number above another one, which stands before a word's first `=`, and the text after it
+abbrev pub numbered_text : ℕ → List ℕ → Option (ℕ × List ℕ)
+numbered_text after w = position (λ b. b == 61) w >>= λ i. number_in (after + 1) (2 ^ 32 - 1) (take i w) >>= λ page. Some (page, drop (i + 1) w)
+
+-- a page number above another one, and the bytes that its page's text writes
 abbrev pub pair_of : ℕ → ℕ → List ℕ → Option (ℕ × List ℕ)
-pair_of page_size after w =
-    position (λ b. b == 61) w >>= λ i.
-    number_in (after + 1) (2 ^ 32 - 1) (take i w) >>= λ page.
-    bytes_of_text page_size (drop (i + 1) w) >>= λ bytes.
-    Some (page, bytes)
+pair_of page_size after w = numbered_text after w >>= λ x. bytes_of_text page_size x.1 >>= λ bytes. Some (x.0, bytes)
