@@ -19,13 +19,15 @@ record WordRead {A : Type 0} (meaning : List ℕ → Option A) (old new : List (
   first : old ≡ word ∷ new
   means : meaning word ≡ Some x
 
+ok_is : {A : Type 0} (x y : A) → ◌≡◌ {A = Result A ℕ} (Ok x) (Ok y) → x ≡ y
+ok_is x y e = cc
+
 word_was : {A : Type 0} (meaning : List ℕ → Option A) (w : List ℕ) (ws new : List (List ℕ)) (o : Option A) (x : A) (n : ℕ) → meaning w ≡ o
     → ◌≡◌ {A = Result (A × List (List ℕ)) ℕ} (ok_or o n >>= λ y. Ok (y, ws)) (Ok (x, new)) → WordRead meaning (w ∷ ws) new x
 word_was meaning w ws new None x n m e = cc
-word_was meaning w ws new (Some y) x n m e =
-    let same : y ≡ x = cc in
-    let left : ws ≡ new = cc in
-    record { word = w; first = ap (λ l. w ∷ l) left; means = m ∙ ap Some same }
+word_was {A = A} meaning w ws new (Some y) x n m e =
+    let both = ok_is (y, ws) (x, new) e in
+    record { word = w; first = ap (λ (p : A × List (List ℕ)). w ∷ p.1) both; means = m ∙ ap (λ (p : A × List (List ℕ)). Some p.0) both }
 
 word_read : {A : Type 0} (meaning : List ℕ → Option A) (old new : List (List ℕ)) (x : A) → word_at meaning old ≡ Ok (x, new) → WordRead meaning old new x
 word_read meaning [] new x e = cc

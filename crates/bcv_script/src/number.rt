@@ -1,4 +1,4 @@
-ghost use Rattle.std.specs.Prelude.{◌≡◌, ◌+◌, ◌*◌, ◌^◌, ◌<◌, ◌≤◌, IfOk, IfSome, SomeIff};
+ghost use Rattle.std.specs.Prelude.{◌≡◌, ◌≢◌, ◌+◌, ◌*◌, ◌^◌, ◌<◌, ◌≤◌, Err, IfOk, IfSome, SomeIff};
 ghost use Rattle.std.specs.List.{list_all};
 ghost use Rattle.bcv_model.specs.Script.{word_at, last_word_at};
 ghost use Rattle.bcv_model.specs.Words.{is_digit, is_number, number_in};
@@ -12,6 +12,7 @@ use crate::words::Words;
 pub fn number(words: &mut Words, low: u64, high: u64) -> Result<u64, Stop>
     ensures value { Gives (λ n. (n, words.new)) result (word_at (number_in low high) words.old) }
     ensures within { IfOk result (λ n. n ≤ high) }
+    ensures takes_no_memory { result ≢ Err Stop.NoMemory }
 {
     let (word, left) = words.word()?;
     number_in(word, low, high).ok_or(Stop::Fault(left))
@@ -21,6 +22,7 @@ pub fn number(words: &mut Words, low: u64, high: u64) -> Result<u64, Stop>
 pub fn last_number(words: &mut Words, low: u64, high: u64) -> Result<u64, Stop>
     ensures value { Gives (λ n. n) result (last_word_at (number_in low high) words.old) }
     ensures within { IfOk result (λ n. n ≤ high) }
+    ensures takes_no_memory { result ≢ Err Stop.NoMemory }
 {
     let number = number(words, low, high)?;
     words.end()?;

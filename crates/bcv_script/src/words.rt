@@ -1,4 +1,4 @@
-ghost use Rattle.std.specs.Prelude.{◌≡◌, ◌==◌, [], true, false, Option};
+ghost use Rattle.std.specs.Prelude.{◌≡◌, ◌≢◌, ◌==◌, [], true, false, Err, Option};
 ghost use Rattle.std.specs.List.{position};
 ghost use Rattle.bcv_model.specs.Script.{ended};
 ghost use Rattle.bcv_script.specs.Left.{TakesWord, HasMore};
@@ -65,7 +65,8 @@ impl<'a> Words<'a> {
 
     // Stops where another word follows.
     pub fn end(&self) -> Result<(), Stop>
-        ensures { Gives (λ _. tt) result (ended self.now) }
+        ensures ended { Gives (λ _. tt) result (ended self.now) }
+        ensures takes_no_memory { result ≢ Err Stop.NoMemory }
     {
         match self.rest {
             Some(line) => Err(Stop::Fault(line.len())),

@@ -1,4 +1,4 @@
-ghost use Rattle.std.specs.Prelude.{◌≡◌, ◌≤◌, IfOk, IfSome, codes};
+ghost use Rattle.std.specs.Prelude.{◌≡◌, ◌≢◌, ◌≤◌, Err, IfOk, IfSome, codes};
 ghost use Rattle.bcv_base.specs.ManifestRules.{is_block_size, is_page_size};
 ghost use Rattle.bcv_model.specs.Script.{word_at, last_word_at, world_at};
 ghost use Rattle.bcv_model.specs.Words.{exactly, block_size_of, page_size_of_word, slots_of};
@@ -12,7 +12,8 @@ use bcv_model::WorldSpec;
 // The world that the words of a world line fix.
 #[tactic(auto, unfolding(bcv_model::specs::Script::world_at))]
 pub fn world(words: &mut Words) -> Result<WorldSpec, Stop>
-    ensures { Gives (λ s. s) result (world_at words.old) }
+    ensures reads { Gives (λ s. s) result (world_at words.old) }
+    ensures takes_no_memory { result ≢ Err Stop.NoMemory }
 {
     world_word(words)?;
     let clients = number(words, 1, 16)? as u8;
@@ -31,7 +32,8 @@ pub fn world(words: &mut Words) -> Result<WorldSpec, Stop>
 
 // The word `world`.
 fn world_word(words: &mut Words) -> Result<(), Stop>
-    ensures { Gives (λ _. (codes "world", words.new)) result (word_at (exactly (codes "world")) words.old) }
+    ensures reads { Gives (λ _. (codes "world", words.new)) result (word_at (exactly (codes "world")) words.old) }
+    ensures takes_no_memory { result ≢ Err Stop.NoMemory }
 {
     let (word, left) = words.word()?;
     if word != b"world".as_slice() {
@@ -44,6 +46,7 @@ fn world_word(words: &mut Words) -> Result<(), Stop>
 fn block_size(words: &mut Words) -> Result<u32, Stop>
     ensures value { Gives (λ n. (n, words.new)) result (word_at block_size_of words.old) }
     ensures within { IfOk result (λ n. n ≤ 16777216) }
+    ensures takes_no_memory { result ≢ Err Stop.NoMemory }
 {
     let (word, left) = words.word()?;
     block_size_of(word).ok_or(Stop::Fault(left))
@@ -63,7 +66,8 @@ fn block_size_of(word: &[u8]) -> Option<u32>
 
 // A page size that isn't above the block size.
 fn page_size(block: u32, words: &mut Words) -> Result<u32, Stop>
-    ensures { Gives (λ n. (n, words.new)) result (word_at (page_size_of_word block) words.old) }
+    ensures reads { Gives (λ n. (n, words.new)) result (word_at (page_size_of_word block) words.old) }
+    ensures takes_no_memory { result ≢ Err Stop.NoMemory }
 {
     let (word, left) = words.word()?;
     page_size_of(block, word).ok_or(Stop::Fault(left))
@@ -82,7 +86,8 @@ fn page_size_of(block: u32, word: &[u8]) -> Option<u32>
 
 // A number of slots whose blocks take at most 2^30 bytes, by the last word.
 fn last_slots(block: u32, words: &mut Words) -> Result<u16, Stop>
-    ensures { Gives (λ n. n) result (last_word_at (slots_of block) words.old) }
+    ensures reads { Gives (λ n. n) result (last_word_at (slots_of block) words.old) }
+    ensures takes_no_memory { result ≢ Err Stop.NoMemory }
 {
     let (word, left) = words.word()?;
     let slots = slots_of(block, word).ok_or(Stop::Fault(left))?;

@@ -1,4 +1,4 @@
-use Rattle.std.proofs.Common.{rules, arith}
+use Rattle.std.proofs.Common.{rules, refl, arith}
 use Rattle.bcv_script.proofs.Hex.{text-unfit, text-other, text-digits}
 use Rattle.bcv_script.proofs.page.bytes_of_text.Goals as goal
 
