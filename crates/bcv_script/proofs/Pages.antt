@@ -1,6 +1,5 @@
 -- What was read of a list of words, and what is left of it.
-use Rattle.std.proofs.Common.{◌≡◌, ℕ, List, [], ◌∷◌, ◌++◌, Option, Some, None, Result, Ok, Err, refl, sym, ap, ◌∙◌, append_assoc, append-nil, length, drop, replicate}
-use Rattle.std.proofs.lemmas.List.{drop-replicate}
+use Rattle.std.proofs.Common.{◌≡◌, ℕ, List, [], ◌∷◌, ◌++◌, Option, Some, None, Result, Ok, Err, refl, sym, ap, ◌∙◌, append_assoc, append-nil, ◌-◌, ◌≤◌, length, take, take_all, replicate}
 use Rattle.std.specs.Option.{ok_or}
 use Rattle.bcv_base.specs.Image.{Page}
 use Rattle.bcv_base.specs.ManifestGrammar.{◌>>=◌}
@@ -134,5 +133,5 @@ pairs_end size after all front old e h = let last = rw h at e in last ∙ ap Ok 
 
 -- ---- a page filled up with zeros
 
-pub padded_over : (size : ℕ) (bytes page : List ℕ) → page ≡ replicate size 0 → bytes ++ drop (length bytes) page ≡ padded size bytes
-padded_over size bytes page e = rw (e, drop-replicate {X = ℕ} (length bytes) size 0) refl
+pub padded_resized : (size : ℕ) (bytes : List ℕ) → length bytes ≤ size → take size bytes ++ replicate (size - length bytes) 0 ≡ padded size bytes
+padded_resized size bytes h = ap (λ (l : List ℕ). l ++ replicate (size - length bytes) 0) (take_all size bytes h)

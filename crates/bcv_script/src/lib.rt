@@ -21,3 +21,5 @@ pub use fault::LineFault;
 pub use reading::{read_line, read_pair, read_world};
 pub use writing::write_reply;
 
+#[cfg(test)]
+mod tests;

@@ -1,4 +1,4 @@
-ghost use Rattle.std.specs.Prelude.{◌≡◌, ◌≤◌, ◌/◌, ◌==◌, ◌++◌, true, length, drop, MatchOption, IfOk, Some, None};
+ghost use Rattle.std.specs.Prelude.{◌≡◌, ◌≤◌, ◌/◌, ◌==◌, true, length, MatchOption, IfOk, Some, None};
 ghost use Rattle.std.specs.List.{list_all, position};
 ghost use Rattle.std.specs.Option.{ok_or};
 ghost use Rattle.bcv_model.specs.Script.{pages_at, pairs_at, word_at, last_word_at};
@@ -29,7 +29,7 @@ fn page(alloc: Global, page_size: u32, words: &mut Words) -> Result<Seq<u8>, Sto
 {
     let (word, left) = words.word()?;
     let bytes = bytes_of_text(alloc, page_size, word, left)?;
-    Ok(padded(alloc, page_size, &bytes)?)
+    Ok(padded(page_size, bytes)?)
 }
 
 // The numbered pages that the words that are left write, their numbers ascending.
@@ -41,7 +41,7 @@ pub fn pairs(alloc: Global, page_size: u32, words: &mut Words) -> Result<Seq<(u3
     while !words.is_empty() {
         let (page, bytes) = pair(alloc, page_size, after, words)?;
         after = page;
-        pairs.push((page, padded(alloc, page_size, &bytes)?))?;
+        pairs.push((page, padded(page_size, bytes)?))?;
     }
     Ok(Seq::of(pairs))
 }
@@ -116,21 +116,14 @@ fn bytes_of_text(alloc: Global, page_size: u32, text: &[u8], left: usize) -> Res
 }
 
 // Bytes filled up with zeros.
-#[tactic(auto, using(crate::proofs::Pages::padded_over))]
-fn padded(alloc: Global, page_size: u32, bytes: &[u8]) -> Result<Seq<u8>, AllocError>
-    requires { length bytes.now ≤ page_size }
-    ensures { IfOk result (λ p. p ≡ padded page_size bytes.now) }
+#[tactic(auto, using(crate::proofs::Pages::padded_resized))]
+fn padded(page_size: u32, bytes: Vec<u8>) -> Result<Seq<u8>, AllocError>
+    requires { length bytes.items ≤ page_size }
+    ensures { IfOk result (λ p. p ≡ padded page_size bytes.items) }
 {
-    let mut page = vec![in alloc; 0; page_size as usize]?;
-    copy_to_front(bytes, &mut page);
+    let mut page = bytes;
+    page.resize(page_size as usize, 0)?;
     Ok(Seq::of(page))
-}
-
-fn copy_to_front(bytes: &[u8], page: &mut [u8])
-    requires { length bytes.now ≤ length page.old }
-    ensures { page.new ≡ bytes.now ++ drop (length bytes.now) page.old }
-{
-    page[..bytes.len()].copy_from_slice(bytes);
 }
 
 // Writes the bytes of hex digits in lower case, or answers `None` where one digit is left over.

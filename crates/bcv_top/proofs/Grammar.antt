@@ -16,6 +16,7 @@ use Rattle.bcv_base.specs.declared.outcome.Outcome.{Outcome}
 use Rattle.bcv_base.specs.declared.outcome.Outcome.TheVariants as outcome
 use Rattle.bcv_model.specs.declared.ask.Ask.{Ask}
 use Rattle.bcv_model.specs.declared.ask.Ask.TheVariants as ask
+use Rattle.bcv_model.specs.declared.ask.Commit.{Commit}
 use Rattle.bcv_model.specs.declared.event.Act.{Act}
 use Rattle.bcv_model.specs.declared.event.Act.TheVariants as act
 use Rattle.bcv_model.specs.declared.event.Event.{Event}
@@ -23,7 +24,7 @@ use Rattle.bcv_model.specs.declared.event.Event.TheVariants as event
 use Rattle.bcv_model.specs.declared.spec.WorldSpec.{WorldSpec}
 use Rattle.bcv_model.specs.declared.verb.Verb.{Verb}
 use Rattle.bcv_model.specs.declared.verb.Verb.TheVariants as verb
-use Rattle.bcv_model.specs.Script.{word_at, last_word_at, ended, pages_at, new_at, step_at, world_at, world_of, act_at, asking, verbs, tick_at, client_at, event_at, event_of}
+use Rattle.bcv_model.specs.Script.{word_at, last_word_at, ended, pages_at, count_in, image_in, txn_in, fuse_at, txn_and_page_at, names_at, commit_at, new_at, step_at, world_at, world_of, act_at, asking, verbs, tick_at, client_at, event_at, event_of}
 use Rattle.bcv_model.specs.Words as words
 use Rattle.bcv_model.specs.Words.{words_of, bytes_left, given, exactly, is_number, value_of, number_in, block_size_of, page_size_of_word, slots_of, name_of, bytes_of_text, padded, page_of_text, unhexed, meaning_in}
 use Rattle.bcv_world.specs.Given.{is_world, IsSpec, IsKeptOutcome, KeepsPages, KeepsAsk, Keeps}
@@ -100,15 +101,31 @@ is_spec c b p r s spec e x y z =
     let here : IsSpec (spec_with c b p r s) = record { block = x; page = y; retention = omega arith } in
     subst IsSpec e here
 
+-- what is read after each word
+abbrev after_retention : ℕ → ℕ → ℕ → (ℕ × List (List ℕ)) → Result WorldSpec ℕ
+after_retention c b p r = last_word_at (slots_of b) r.1 >>= λ s. Ok (spec_with c b p r.0 s)
+
+abbrev after_page : ℕ → ℕ → (ℕ × List (List ℕ)) → Result WorldSpec ℕ
+after_page c b p = word_at (number_in 0 (2 ^ 64 - 1)) p.1 >>= after_retention c b p.0
+
+abbrev after_block : ℕ → (ℕ × List (List ℕ)) → Result WorldSpec ℕ
+after_block c b = word_at (page_size_of_word b.0) b.1 >>= after_page c b.0
+
+abbrev after_clients : (ℕ × List (List ℕ)) → Result WorldSpec ℕ
+after_clients c = word_at block_size_of c.1 >>= after_block c.0
+
+abbrev after_word : (List ℕ × List (List ℕ)) → Result WorldSpec ℕ
+after_word w = word_at (number_in 1 16) w.1 >>= after_clients
+
 words_spec : (ws : List (List ℕ)) (spec : WorldSpec) → world_at ws ≡ Ok spec → IsSpec spec
 unfolding world_at
 words_spec ws spec e =
-    let w = bind_ok (word_at (exactly (codes "world")) ws) _ spec e in
-    let c = bind_ok (word_at (number_in 1 16) w.0.1) _ spec w.2 in
-    let b = bind_ok (word_at block_size_of c.0.1) _ spec c.2 in
-    let p = bind_ok (word_at (page_size_of_word b.0.0) b.0.1) _ spec b.2 in
-    let r = bind_ok (word_at (number_in 0 (2 ^ 64 - 1)) p.0.1) _ spec p.2 in
-    let s = bind_ok (last_word_at (slots_of b.0.0) r.0.1) _ spec r.2 in
+    let w = bind_ok (word_at (exactly (codes "world")) ws) after_word spec e in
+    let c = bind_ok (word_at (number_in 1 16) w.0.1) after_clients spec w.2 in
+    let b = bind_ok (word_at block_size_of c.0.1) (after_block c.0.0) spec c.2 in
+    let p = bind_ok (word_at (page_size_of_word b.0.0) b.0.1) (after_page c.0.0 b.0.0) spec b.2 in
+    let r = bind_ok (word_at (number_in 0 (2 ^ 64 - 1)) p.0.1) (after_retention c.0.0 b.0.0 p.0.0) spec p.2 in
+    let s = bind_ok (last_word_at (slots_of b.0.0) r.0.1) (λ (s : ℕ). Ok (spec_with c.0.0 b.0.0 p.0.0 r.0.0 s)) spec r.2 in
     let block = word_ok block_size_of c.0.1 b.0 b.1 in
     let page = word_ok (page_size_of_word b.0.0) b.0.1 p.0 p.1 in
     let retention = word_ok (number_in 0 (2 ^ 64 - 1)) p.0.1 r.0 r.1 in
@@ -187,28 +204,28 @@ outcome_kept outcome.Lost t = cc
 
 act_kept : (spec : WorldSpec) (v : Verb) (ws : List (List ℕ)) → length ws < 2 ^ 31 → IsKept spec (act_at spec v ws)
 unfolding act_at
-act_kept spec verb.Up ws few = bind_kept spec _ _ (λ x e t. cc)
-act_kept spec verb.Crash ws few = bind_kept spec _ _ (λ x e t. cc)
-act_kept spec verb.Fuse ws few = bind_kept spec _ _ (λ x e t. cc)
-act_kept spec verb.Fail ws few = bind_kept spec _ _ (λ x e t. cc)
-act_kept spec verb.Begin ws few = bind_kept spec _ _ (λ x e t. (refl, refl))
-act_kept spec verb.Read ws few = bind_kept spec _ _ (λ x e t. (refl, refl))
-act_kept spec verb.Hold ws few = bind_kept spec _ _ (λ x e t. cc)
-act_kept spec verb.Look ws few = bind_kept spec _ _ (λ x e t. cc)
-act_kept spec verb.Free ws few = bind_kept spec _ _ (λ x e t. cc)
-act_kept spec verb.End ws few = bind_kept spec _ _ (λ x e t. cc)
-act_kept spec verb.Commit ws few = bind_kept spec _ _ (λ x e t. cc)
-act_kept spec verb.Revert ws few = bind_kept spec _ _ (λ x e t. cc)
-act_kept spec verb.List ws few = bind_kept spec _ _ (λ x e t. cc)
-act_kept spec verb.Create ws few = bind_kept spec _ _ (λ x e t. (refl, refl, refl, refl))
-act_kept spec verb.New ws few = bind_kept spec _ _ (λ x e t. (refl, refl, new_pages spec ws x few e))
-act_kept spec verb.Upload ws few = bind_kept spec _ _ (λ x e t. cc)
-act_kept spec verb.Copy ws few = bind_kept spec _ _ (λ x e t. (refl, refl))
-act_kept spec verb.Drop ws few = bind_kept spec _ _ (λ x e t. (refl, refl))
-act_kept spec verb.Poll ws few = bind_kept spec _ _ (λ x e t. cc)
-act_kept spec verb.Cleanup ws few = bind_kept spec _ _ (λ x e t. cc)
-act_kept spec verb.Resolve ws few = bind_kept spec _ _ (λ x e t. cc)
-act_kept spec verb.Step ws few = bind_kept spec _ _ (λ x e t. (refl, outcome_kept x.1 t))
+act_kept spec verb.Up ws few = bind_kept spec (ended ws) (λ (u : Unit {0}). Ok act.Up) (λ x e t. cc)
+act_kept spec verb.Crash ws few = bind_kept spec (last_word_at image_in ws) (λ (image : ℕ). Ok (act.Crash image)) (λ x e t. cc)
+act_kept spec verb.Fuse ws few = bind_kept spec (fuse_at ws) (λ (x : ℕ × ℕ). Ok (act.Fuse x.0 x.1)) (λ x e t. cc)
+act_kept spec verb.Fail ws few = bind_kept spec (last_word_at count_in ws) (λ (calls : ℕ). Ok (act.FailAt calls)) (λ x e t. cc)
+act_kept spec verb.Begin ws few = bind_kept spec (last_word_at name_of ws) (λ (db : List ℕ). Ok (asking (ask.Begin db))) (λ x e t. (refl, refl))
+act_kept spec verb.Read ws few = bind_kept spec (txn_and_page_at ws) (λ (x : ℕ × ℕ). Ok (asking (ask.Read x.0 x.1))) (λ x e t. (refl, refl))
+act_kept spec verb.Hold ws few = bind_kept spec (txn_and_page_at ws) (λ (x : ℕ × ℕ). Ok (asking (ask.Hold x.0 x.1))) (λ x e t. cc)
+act_kept spec verb.Look ws few = bind_kept spec (txn_and_page_at ws) (λ (x : ℕ × ℕ). Ok (asking (ask.Look x.0 x.1))) (λ x e t. cc)
+act_kept spec verb.Free ws few = bind_kept spec (txn_and_page_at ws) (λ (x : ℕ × ℕ). Ok (asking (ask.Free x.0 x.1))) (λ x e t. cc)
+act_kept spec verb.End ws few = bind_kept spec (last_word_at txn_in ws) (λ (txn : ℕ). Ok (asking (ask.End txn))) (λ x e t. cc)
+act_kept spec verb.Commit ws few = bind_kept spec (commit_at spec.page ws) (λ (x : List ℕ × Commit). Ok (asking (ask.Commit x.0 x.1))) (λ x e t. cc)
+act_kept spec verb.Revert ws few = bind_kept spec (last_word_at name_of ws) (λ (db : List ℕ). Ok (asking (ask.Revert db))) (λ x e t. cc)
+act_kept spec verb.List ws few = bind_kept spec (ended ws) (λ (u : Unit {0}). Ok (asking ask.List)) (λ x e t. cc)
+act_kept spec verb.Create ws few = bind_kept spec (ended ws) (λ (u : Unit {0}). Ok (asking (ask.Create spec.block spec.retention))) (λ x e t. (refl, (refl, refl, refl)))
+act_kept spec verb.New ws few = bind_kept spec (new_at spec.page ws) (λ (x : List ℕ × List Page). Ok (asking (ask.NewDb x.0 spec.page x.1))) (λ x e t. (refl, (refl, new_pages spec ws x few e)))
+act_kept spec verb.Upload ws few = bind_kept spec (last_word_at name_of ws) (λ (db : List ℕ). Ok (asking (ask.Upload db))) (λ x e t. cc)
+act_kept spec verb.Copy ws few = bind_kept spec (names_at ws) (λ (x : List ℕ × List ℕ). Ok (asking (ask.Copy x.0 x.1))) (λ x e t. (refl, refl))
+act_kept spec verb.Drop ws few = bind_kept spec (last_word_at name_of ws) (λ (db : List ℕ). Ok (asking (ask.Remove db))) (λ x e t. (refl, refl))
+act_kept spec verb.Poll ws few = bind_kept spec (ended ws) (λ (u : Unit {0}). Ok (asking ask.Poll)) (λ x e t. cc)
+act_kept spec verb.Cleanup ws few = bind_kept spec (ended ws) (λ (u : Unit {0}). Ok (asking ask.Cleanup)) (λ x e t. cc)
+act_kept spec verb.Resolve ws few = bind_kept spec (ended ws) (λ (u : Unit {0}). Ok (asking ask.Resolve)) (λ x e t. cc)
+act_kept spec verb.Step ws few = bind_kept spec (step_at ws) (λ (x : ℕ × Outcome). Ok (act.Ask (ask.Step x.0) x.1)) (λ x e t. (refl, outcome_kept x.1 t))
 
 kept_of : (spec : WorldSpec) (r : Result Act ℕ) (what : Act) → IsKept spec r → r ≡ Ok what → is_taken_act what ≡ true → Keeps spec (event.Of 1 what)
 kept_of spec (Err left) what k e t = cc

@@ -36,10 +36,10 @@ answer_unread fault.NoMemory world line text e = tt
 
 -- the event of a line that was read, where the world takes it or doesn't
 pub event_taken : (spec : WorldSpec) (line : List ℕ) (e : Event) → event_of spec line ≡ Ok e → is_taken e ≡ true → taken_event spec line ≡ Some e
-event_taken spec line e is yes = ap taken is ∙ ap (λ (b : Bool). given b e) yes
+event_taken spec line e is takes = ap taken is ∙ ap (λ (b : Bool). given b e) takes
 
 pub answer_not_taken : (world : World) (line text : List ℕ) (e : Event) (at : ℕ) → event_of world.spec line ≡ Ok e → is_taken e ≡ false → Answers (Err (fault.BadLine at)) world world line text
-answer_not_taken world line text e at is no = (refl, ap taken is ∙ ap (λ (b : Bool). given b e) no)
+answer_not_taken world line text e at is other = (refl, ap taken is ∙ ap (λ (b : Bool). given b e) other)
 
 events_more : (spec : WorldSpec) (lines : List (List ℕ)) (line : List ℕ) (es : List Event) (e : Event) → map (taken_event spec) lines ≡ map Some es → taken_event spec line ≡ Some e
     → map (taken_event spec) (lines ++ line ∷ []) ≡ map Some (es ++ e ∷ [])
