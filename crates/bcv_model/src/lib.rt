@@ -11,6 +11,7 @@ mod kept;
 mod note;
 mod reply;
 mod spec;
+mod verb;
 
 pub use ask::{Ask, Commit};
 pub use bcv_base::Outcome;
@@ -19,3 +20,4 @@ pub use kept::{Kept, Local, PendingPub, Uploading};
 pub use note::Note;
 pub use reply::{Reply, Row, Said};
 pub use spec::WorldSpec;
+pub use verb::Verb;

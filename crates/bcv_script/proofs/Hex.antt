@@ -1,16 +1,19 @@
 -- The bytes of hex digits, by the words of the crate `hex`.
-use Rattle.std.proofs.Common.{◌≡◌, ℕ, ◌+◌, ◌*◌, ◌/◌, ◌%◌, ◌≤◌, Bool, true, false, ◌&&◌, List, [], ◌∷◌, ◌++◌, length, drop, replicate, Option, Some, None, Result, Ok, Err, refl, sym, arith, eq-eqb}
-use Rattle.std.specs.Prelude.{nat_le, ◌==◌, if◌then◌else◌, option_and_then, MatchOption, MatchResult}
+use Rattle.std.proofs.Common.{◌≡◌, ℕ, ◌+◌, ◌*◌, ◌/◌, ◌%◌, ◌≤◌, Bool, true, false, ◌&&◌, List, [], ◌∷◌, length, Option, Some, None, Result, Ok, Err, refl, sym, ◌∙◌, arith, eq-eqb}
+use Rattle.std.specs.Prelude.{nat_le, ◌==◌, if◌then◌else◌, option_and_then, codes, MatchOption, MatchResult}
+use Rattle.std.specs.Str.{bytes_eq}
 use Rattle.std.specs.List.{list_all}
 use Rattle.std.specs.Result.{result_ok}
 use Rattle.std.proofs.lemmas.Bool.{and_parts, eqb-true}
 use Rattle.std.proofs.lemmas.Grind.{common_steps}
-use Rattle.std.proofs.lemmas.List.{drop-replicate}
 use Rattle.hex.specs.declared.error.FromHexError.{FromHexError}
 use Rattle.hex.specs.Hex.{◌>>=◌, decode_pairs, decode_sized, hex_digit_value, digit_or_error}
-use Rattle.bcv_base.specs.Image.{Page}
-use Rattle.bcv_model.specs.Words.{hex_value, unhexed, page_from}
-use Rattle.bcv_script.specs.Digits.{is_lower_hex, page_of_digits}
+use Rattle.bcv_model.specs.Words.{given, hex_value, unhexed, bytes_of_text}
+use Rattle.bcv_script.specs.Digits.{is_lower_hex}
+
+-- the bytes, where they are at least one and at most a page
+abbrev fits : ℕ → List ℕ → Option (List ℕ)
+fits n bs = given (nat_le 1 (length bs) && nat_le (length bs) n) bs
 
 -- ---- one digit
 
@@ -106,31 +109,34 @@ pub decoded : (w new : List ℕ) (n : ℕ) (r : Result (Unit {0}) FromHexError) 
     → MatchOption (result_ok r) (unhexed w ≡ None) (λ _. unhexed w ≡ Some new)
 decoded w new n r e h m = decoded_as new (unhexed w) (decode_sized w n) r (unhexed-sized w n e h) m
 
--- ---- a page
+-- ---- a page's text
 
-no_page : (n : ℕ) (o : Option (List ℕ)) → ((bs : List ℕ) → o ≡ Some bs → page_from n bs ≡ None) → option_and_then (λ bs. page_from n bs) o ≡ None
-no_page n None h = refl
-no_page n (Some bs) h = h bs refl
+no_text : (n : ℕ) (o : Option (List ℕ)) → ((bs : List ℕ) → o ≡ Some bs → fits n bs ≡ None) → option_and_then (λ bs. fits n bs) o ≡ None
+no_text n None h = refl
+no_text n (Some bs) h = h bs refl
 
-unfit : (n k : ℕ) (p : Page) → (1 ≤ k → k ≤ n → ⊥) → (if nat_le 1 k && nat_le k n then Some p else None) ≡ None
-unfit n k p h = grind (arith, common_steps)
+unfit : (n : ℕ) (bs : List ℕ) → (1 ≤ length bs → length bs ≤ n → ⊥) → fits n bs ≡ None
+unfit n bs h = grind (arith, common_steps)
 
-fit : (n k : ℕ) (p : Page) → 1 ≤ k → k ≤ n → (if nat_le 1 k && nat_le k n then Some p else None) ≡ Some p
-fit n k p low high = grind (arith, common_steps)
+fit : (n : ℕ) (bs : List ℕ) → 1 ≤ length bs → length bs ≤ n → fits n bs ≡ Some bs
+fit n bs low high = grind (arith, common_steps)
+
+digits_only : (n : ℕ) (w : List ℕ) → bytes_eq w (codes "-") ≡ false → bytes_of_text n w ≡ option_and_then (λ bs. fits n bs) (unhexed w)
+digits_only n w e = rw e refl
 
 -- too few digits, or too many
-pub page_of_digits-unfit : (n : ℕ) (w : List ℕ) → (1 ≤ length w / 2 → length w / 2 ≤ n → ⊥) → page_of_digits n w ≡ None
-page_of_digits-unfit n w h = no_page n (unhexed w) (λ bs e. let two = unhexed-length w bs e in unfit n (length bs) _ (λ low high. h (omega (arith, two)) (omega (arith, two))))
+pub text-unfit : (n : ℕ) (w : List ℕ) → bytes_eq w (codes "-") ≡ false → (1 ≤ length w / 2 → length w / 2 ≤ n → ⊥) → bytes_of_text n w ≡ None
+text-unfit n w e h =
+    digits_only n w e ∙ no_text n (unhexed w) (λ bs is. let two = unhexed-length w bs is in unfit n bs (λ low high. h (omega (arith, two)) (omega (arith, two))))
 
-pub page_of_digits-other : (n : ℕ) (w : List ℕ) → list_all is_lower_hex w ≡ false → page_of_digits n w ≡ None
-page_of_digits-other n w h = rw (unhexed-other w h) refl
+pub text-other : (n : ℕ) (w : List ℕ) → bytes_eq w (codes "-") ≡ false → list_all is_lower_hex w ≡ false → bytes_of_text n w ≡ None
+text-other n w e h = digits_only n w e ∙ (rw (unhexed-other w h) refl)
 
--- the bytes of the digits over a page of zeros
-pub page_of_digits-over : (n : ℕ) (w new page : List ℕ) (o : Option (Unit {0})) → 1 ≤ length w / 2 → length w / 2 ≤ n → page ≡ replicate n 0
+-- what the digits write
+pub text-digits : (n : ℕ) (w new : List ℕ) (o : Option (Unit {0})) → bytes_eq w (codes "-") ≡ false → 1 ≤ length w / 2 → length w / 2 ≤ n
     → MatchOption o (unhexed w ≡ None) (λ _. unhexed w ≡ Some new)
-    → MatchOption o (page_of_digits n w ≡ None) (λ _. page_of_digits n w ≡ Some (new ++ drop (length w / 2) page))
-page_of_digits-over n w new page None low high zeros h = rw h refl
-page_of_digits-over n w new page (Some _) low high zeros h =
+    → MatchOption o (bytes_of_text n w ≡ None) (λ _. bytes_of_text n w ≡ Some new)
+text-digits n w new None e low high h = digits_only n w e ∙ (rw h refl)
+text-digits n w new (Some _) e low high h =
     let two = unhexed-length w new h in
-    let half : length w / 2 ≡ length new = omega (arith, two) in
-    rw (h, zeros, half, drop-replicate {X = ℕ} (length new) n 0) (fit n (length new) _ (omega arith) (omega arith))
+    digits_only n w e ∙ (rw h (fit n new (omega (arith, two)) (omega (arith, two))))

@@ -6,7 +6,9 @@ use std::alloc::{AllocError, AllocFailed};
 /// Why a line gave nothing: it isn't in the grammar, or memory ran out.
 #[derive(Clone, Copy, Debug, PartialEq, Eq)]
 pub enum LineFault {
-    BadLine,
+    /// `at` is the place, from 0, of the first word that cannot stand after those before it; where the line ends too
+    /// early it is the line's length.
+    BadLine { at: u32 },
     NoMemory,
 }
 

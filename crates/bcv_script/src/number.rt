@@ -1,10 +1,36 @@
-ghost use Rattle.std.specs.Prelude.{◌≡◌, ◌+◌, ◌*◌, ◌^◌, ◌<◌, ◌≤◌, IfSome, SomeIff};
+ghost use Rattle.std.specs.Prelude.{◌≡◌, ◌≢◌, ◌+◌, ◌*◌, ◌^◌, ◌<◌, ◌≤◌, Err, IfOk, IfSome, SomeIff};
 ghost use Rattle.std.specs.List.{list_all};
+ghost use Rattle.bcv_model.specs.Script.{word_at, last_word_at};
 ghost use Rattle.bcv_model.specs.Words.{is_digit, is_number, number_in};
 ghost use Rattle.bcv_script.specs.Numbers.{small_value};
+ghost use Rattle.bcv_script.specs.Reading.{Gives};
+
+use crate::stop::Stop;
+use crate::words::Words;
+
+// The number that the next word writes, in a range.
+pub fn number(words: &mut Words, low: u64, high: u64) -> Result<u64, Stop>
+    ensures value { Gives (λ n. (n, words.new)) result (word_at (number_in low high) words.old) }
+    ensures within { IfOk result (λ n. n ≤ high) }
+    ensures takes_no_memory { result ≢ Err Stop.NoMemory }
+{
+    let (word, left) = words.word()?;
+    number_in(word, low, high).ok_or(Stop::Fault(left))
+}
+
+// The number that the last word writes, in a range.
+pub fn last_number(words: &mut Words, low: u64, high: u64) -> Result<u64, Stop>
+    ensures value { Gives (λ n. n) result (last_word_at (number_in low high) words.old) }
+    ensures within { IfOk result (λ n. n ≤ high) }
+    ensures takes_no_memory { result ≢ Err Stop.NoMemory }
+{
+    let number = number(words, low, high)?;
+    words.end()?;
+    Ok(number)
+}
 
 // The number that a word writes in decimal, where it lies in the range.
-pub fn number(word: &[u8], low: u64, high: u64) -> Option<u64>
+pub fn number_in(word: &[u8], low: u64, high: u64) -> Option<u64>
     ensures value { result ≡ number_in low high word.now }
     ensures within { IfSome result (λ n. n ≤ high) }
 {

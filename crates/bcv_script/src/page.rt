@@ -1,53 +1,130 @@
-ghost use Rattle.std.specs.Prelude.{◌≡◌, ◌/◌, true, length, replicate, MatchOption, Some, None};
-ghost use Rattle.std.specs.List.{list_all};
-ghost use Rattle.bcv_model.specs.Words.{page_of_word, pages_of_words, unhexed};
-ghost use Rattle.bcv_script.specs.Digits.{is_lower_hex, page_of_digits};
-ghost use Rattle.bcv_script.specs.Reading.{Reads};
+ghost use Rattle.std.specs.Prelude.{◌≡◌, ◌≤◌, ◌/◌, ◌==◌, true, length, MatchOption, IfOk, Some, None};
+ghost use Rattle.std.specs.List.{list_all, position};
+ghost use Rattle.std.specs.Option.{ok_or};
+ghost use Rattle.bcv_model.specs.Script.{pages_at, pairs_at, word_at, last_word_at};
+ghost use Rattle.bcv_base.specs.Padded.{padded};
+ghost use Rattle.bcv_model.specs.Words.{bytes_of_text, page_of_text, numbered_text, pair_of, unhexed};
+ghost use Rattle.bcv_script.specs.Digits.{is_lower_hex};
+ghost use Rattle.bcv_script.specs.Reading.{Gives};
 
-use crate::fault::LineFault;
+use crate::number::number_in;
+use crate::stop::Stop;
 use crate::words::Words;
 use bcv_base::Seq;
-use std::alloc::Global;
+use std::alloc::{AllocError, Global};
 
 // The pages that the words that are left write.
-#[tactic(auto, using(crate::proofs::Pages::pages_after_read, crate::proofs::Pages::pages_after_none))]
-pub fn pages(alloc: Global, page_size: u32, words: &mut Words) -> Result<Seq<Seq<u8>>, LineFault>
-    ensures { Reads result (pages_of_words page_size words.old) }
+pub fn pages(alloc: Global, page_size: u32, words: &mut Words) -> Result<Seq<Seq<u8>>, Stop>
+    ensures { Gives (λ ps. ps) result (pages_at page_size words.old) }
 {
     let mut pages = Vec::new(alloc);
-    while let Some(word) = words.next() {
-        pages.push(page(alloc, page_size, word)?)?;
+    while !words.is_empty() {
+        pages.push(page(alloc, page_size, words)?)?;
     }
     Ok(Seq::of(pages))
 }
 
-// The page that a word writes.
-fn page(alloc: Global, page_size: u32, word: &[u8]) -> Result<Seq<u8>, LineFault>
-    ensures { Reads result (page_of_word page_size word.now) }
+// The page that the next word writes.
+fn page(alloc: Global, page_size: u32, words: &mut Words) -> Result<Seq<u8>, Stop>
+    ensures { Gives (λ p. (p, words.new)) result (word_at (page_of_text page_size) words.old) }
 {
-    let mut page = vec![in alloc; 0; page_size as usize]?;
-    if word != b"-".as_slice() {
-        write_digits(word, &mut page).ok_or(LineFault::BadLine)?;
-    }
-    Ok(Seq::of(page))
+    let (word, left) = words.word()?;
+    let bytes = bytes_of_text(alloc, page_size, word, left)?;
+    Ok(padded(page_size, bytes)?)
 }
 
-// Writes the bytes of hex digits over the first ones of a page of zeros, or answers `None` where they write no page.
-fn write_digits(word: &[u8], page: &mut [u8]) -> Option<()>
-    requires { page.old ≡ replicate (length page.old) 0 }
-    ensures { MatchOption result (page_of_digits (length page.old) word.now ≡ None) (λ _. page_of_digits (length page.old) word.now ≡ Some page.new) }
+// The numbered pages that the words that are left write, their numbers ascending.
+pub fn pairs(alloc: Global, page_size: u32, words: &mut Words) -> Result<Seq<(u32, Seq<u8>)>, Stop>
+    ensures { Gives (λ ps. ps) result (pairs_at page_size 0 words.old) }
 {
-    let count = word.len() / 2;
+    let mut pairs = Vec::new(alloc);
+    let mut after = 0;
+    while !words.is_empty() {
+        let (page, bytes) = pair(alloc, page_size, after, words)?;
+        after = page;
+        pairs.push((page, padded(page_size, bytes)?))?;
+    }
+    Ok(Seq::of(pairs))
+}
+
+// The page number and the bytes that the last word writes.
+pub fn last_pair(
+    alloc: Global,
+    page_size: u32,
+    after: u32,
+    words: &mut Words,
+) -> Result<(u32, Vec<u8>), Stop>
+    ensures { Gives (λ x. (x.0, x.1.items)) result (last_word_at (pair_of page_size after) words.old) }
+{
+    let pair = pair(alloc, page_size, after, words)?;
+    words.end()?;
+    Ok(pair)
+}
+
+// The page number above another one, and the bytes, that the next word writes.
+fn pair(
+    alloc: Global,
+    page_size: u32,
+    after: u32,
+    words: &mut Words,
+) -> Result<(u32, Vec<u8>), Stop>
+    ensures value { Gives (λ x. ((x.0, x.1.items), words.new)) result (word_at (pair_of page_size after) words.old) }
+    ensures fits { IfOk result (λ x. length x.1.items ≤ page_size) }
+{
+    let (word, left) = words.word()?;
+    let (page, text) = numbered_text(after, word).ok_or(Stop::Fault(left))?;
+    let bytes = bytes_of_text(alloc, page_size, text, left)?;
+    Ok((page, bytes))
+}
+
+// The page number above another one that stands before the first `=`, and the text after it.
+fn numbered_text(after: u32, word: &[u8]) -> Option<(u32, &[u8])>
+    ensures { MatchOption result (numbered_text after word.now ≡ None) (λ x. numbered_text after word.now ≡ Some (x.0, x.1.now)) }
+{
+    let equals = equals_in(word)?;
+    let page = number_in(&word[..equals], u64::from(after) + 1, u64::from(u32::MAX))?;
+    Some((page as u32, &word[equals + 1..]))
+}
+
+// Where the first `=` is.
+fn equals_in(word: &[u8]) -> Option<usize>
+    ensures { result ≡ position (λ b. b == 61) word.now }
+{
+    word.iter().position(|byte| *byte == b'=')
+}
+
+// The bytes that a page's text writes; a stop is at a place with so many bytes left.
+fn bytes_of_text(alloc: Global, page_size: u32, text: &[u8], left: usize) -> Result<Vec<u8>, Stop>
+    ensures value { Gives (λ v. v.items) result (ok_or (bytes_of_text page_size text.now) left) }
+    ensures fits { IfOk result (λ v. length v.items ≤ page_size) }
+{
+    if text == b"-".as_slice() {
+        return Ok(Vec::new(alloc));
+    }
+    let count = text.len() / 2;
     if count == 0 {
-        return None;
+        return Err(Stop::Fault(left));
     }
-    if page.len() < count {
-        return None;
+    if count > page_size as usize {
+        return Err(Stop::Fault(left));
     }
-    if !all_lower_hex(word) {
-        return None;
+    if !all_lower_hex(text) {
+        return Err(Stop::Fault(left));
     }
-    decode(word, &mut page[..count])
+    let mut bytes = vec![in alloc; 0; count]?;
+    decode(text, &mut bytes).ok_or(Stop::Fault(left))?;
+    Ok(bytes)
+}
+
+// Bytes filled up with zeros.
+#[tactic(auto, using(crate::proofs::Pages::padded_resized))]
+fn padded(page_size: u32, bytes: Vec<u8>) -> Result<Seq<u8>, AllocError>
+    requires { length bytes.items ≤ page_size }
+    ensures { IfOk result (λ p. p ≡ padded page_size bytes.items) }
+{
+    let mut page = bytes;
+    page.resize(page_size as usize, 0)?;
+    Ok(Seq::of(page))
 }
 
 // Writes the bytes of hex digits in lower case, or answers `None` where one digit is left over.

@@ -14,6 +14,13 @@ const SPEC: WorldSpec = WorldSpec {
     slots: 4,
 };
 
+fn bytes_of(text: &str) -> &[u8]
+    ensures { length result.now ≤ 1048576 }
+{
+    let bytes = text.as_bytes();
+    &bytes[..bytes.len().min(1048576)]
+}
+
 #[test]
 fn worlds(rt: HostRuntime) {
     let largest = WorldSpec {
@@ -33,88 +40,165 @@ fn worlds(rt: HostRuntime) {
     for (line, want) in [
         (
             "world 16 16777216 65536 18446744073709551615 64",
-            Some(largest),
+            Ok(largest),
         ),
-        ("world 1 512 512 0 1024", Some(smallest)),
-        ("world 17 512 512 0 1024", None),
-        ("world 0 512 512 0 1024", None),
-        ("world 01 512 512 0 1024", None),
-        ("world 1 512 1024 0 1024", None),
-        ("world 1 513 512 0 1024", None),
-        ("world 1 256 512 0 1024", None),
-        ("world 1 512 512 18446744073709551616 1024", None),
-        ("world 1 512 512 99999999999999999999999999999 1024", None),
-        ("world 1 512 512 0 1025", None),
-        ("world 1 512 512 0 0", None),
-        ("world 16 16777216 65536 0 65", None),
-        ("world 1 512 512 0 1024 ", None),
-        ("world 1 512  512 0 1024", None),
-        ("world 1 512 512 0", None),
-        ("World 1 512 512 0 1024", None),
-        ("", None),
+        ("world 1 512 512 0 1024", Ok(smallest)),
+        ("", bad(0)),
+        (" ", bad(0)),
+        ("World 1 512 512 0 1024", bad(0)),
+        ("world", bad(5)),
+        ("world ", bad(6)),
+        ("world 0 512 512 0 1024", bad(6)),
+        ("world 01 512 512 0 1024", bad(6)),
+        ("world 17 512 512 0 1024", bad(6)),
+        ("world 1", bad(7)),
+        ("world 1  512 512 0 1024", bad(8)),
+        ("world 1 256 512 0 1024", bad(8)),
+        ("world 1 513 512 0 1024", bad(8)),
+        ("world 1 33554432 512 0 1", bad(8)),
+        ("world 1 512 1024 0 1024", bad(12)),
+        ("world 1 512 513 0 1024", bad(12)),
+        ("world 1 512 512", bad(15)),
+        ("world 1 512 512 18446744073709551616 1024", bad(16)),
+        (
+            "world 1 512 512 99999999999999999999999999999 1024",
+            bad(16),
+        ),
+        ("world 1 512 512 0", bad(17)),
+        ("world 1 512 512 0 0", bad(18)),
+        ("world 1 512 512 0 1025", bad(18)),
+        ("world 16 16777216 65536 0 65", bad(26)),
+        ("world 1 512 512 0 1024 ", bad(23)),
+        ("world 1 512 512 0 1024 1", bad(23)),
     ] {
-        assert_eq!(rt; read_world(bytes_of(line)).ok(), want, "{line}");
+        assert_eq!(rt; read_world(bytes_of(line)), want, "{line}");
     }
 }
 
+fn bad(at: u32) -> Result<WorldSpec, LineFault> {
+    Err(LineFault::BadLine { at })
+}
+
+// Each line of the grammar, as it is read.
 #[test]
 fn events(rt: HostRuntime) -> Result<(), Fail> {
     for (line, want) in [
-        ("1 create", "1 create 1024 50"),
-        ("3 create", "3 create 1024 50"),
-        ("4 create", "bad"),
-        ("0 create", "bad"),
-        ("1 create 1", "bad"),
+        ("tick 0", "tick 0"),
+        ("tick 18446744073709551615", "tick 18446744073709551615"),
+        ("1 up", "1 up"),
+        ("1 crash 4", "1 crash 4"),
+        ("1 fuse 4294967295 0", "1 fuse 4294967295 0"),
+        ("1 fail 0", "1 fail 0"),
         ("1 begin Main-2_copy.db", "1 begin Main-2_copy.db"),
-        (
-            "1 begin 0123456789012345678901234567890123456789012345678901234567890123",
-            "1 begin 0123456789012345678901234567890123456789012345678901234567890123",
-        ),
-        (
-            "1 begin 01234567890123456789012345678901234567890123456789012345678901234",
-            "bad",
-        ),
-        ("1 begin a/b", "bad"),
-        ("1 begin ", "bad"),
-        ("1 begin a b", "bad"),
         ("2 read 64 4294967295", "2 read 64 4294967295"),
-        ("2 read 65 1", "bad"),
-        ("2 read 1 4294967296", "bad"),
-        ("2 read 1 0", "bad"),
-        ("2 read 01 1", "bad"),
-        ("1 step 16", "1 step 16"),
-        ("1 step 17", "bad"),
-        ("1 step", "bad"),
-        ("1 step 1 ", "bad"),
-        ("1 step 1 fail", "1 step 1 fail"),
-        ("1 step 1 lost", "bad"),
-        ("1 step 1 fail fail", "bad"),
-        ("1 step 1 Fail", "bad"),
-        ("1 step 17 fail", "bad"),
+        ("2 hold 1 2", "2 hold 1 2"),
+        ("2 look 1 2", "2 look 1 2"),
+        ("2 free 1 2", "2 free 1 2"),
+        ("2 end 64", "2 end 64"),
+        ("1 commit a 0", "1 commit a 0:"),
+        (
+            "1 commit a 2 1=- 3=ff 4294967295=0a00",
+            "1 commit a 2: 1=512:0 3=512:255 4294967295=512:10",
+        ),
+        ("1 revert a", "1 revert a"),
+        ("1 list", "1 list"),
+        ("3 create", "3 create 1024 50"),
+        ("1 new a", "1 new a 512:"),
+        ("1 new a - 0a ff00", "1 new a 512: 512:0 512:10 512:255"),
+        ("1 upload a", "1 upload a"),
         ("2 copy a b.c", "2 copy a b.c"),
-        ("1 copy a", "bad"),
-        ("1 copy a b c", "bad"),
-        ("1 copy a b/c", "bad"),
-        ("1 copy a b fail", "bad"),
         ("3 drop a", "3 drop a"),
-        ("1 drop", "bad"),
-        ("1 drop a fail", "bad"),
-        ("1  step 1", "bad"),
-        (" 1 step 1", "bad"),
-        ("1 new a", "1 new a 512: 0"),
-        ("1 new a - 0a ff00", "1 new a 512: 3 512:0 512:10 512:255"),
-        ("1 new a 0", "bad"),
-        ("1 new a 0A", "bad"),
-        ("1 new a 0g", "bad"),
-        ("1 new a  00", "bad"),
-        ("1 new", "bad"),
-        ("1 forget", "bad"),
-        ("1", "bad"),
-        ("", "bad"),
+        ("1 poll", "1 poll"),
+        ("1 cleanup", "1 cleanup"),
+        ("1 resolve", "1 resolve"),
+        ("1 step 16", "1 step 16 ok"),
+        ("1 step 1 fail", "1 step 1 fail"),
+        ("1 step 1 lost", "1 step 1 lost"),
     ] {
         assert_eq!(rt; shown(rt.alloc(), line)?.as_str(), want, "{line}");
     }
     Ok(())
+}
+
+// Lines that are bad, each at the place of the first word that cannot stand.
+#[test]
+fn bad_events(rt: HostRuntime) {
+    for (line, at) in [
+        ("", 0u32),
+        (" ", 0),
+        (" 1 poll", 0),
+        ("0 poll", 0),
+        ("4 poll", 0),
+        ("01 poll", 0),
+        ("1\t poll", 0),
+        ("Tick 1", 0),
+        ("\u{e9} poll", 0),
+        ("world 1 512 512 0 1", 0),
+        ("1", 1),
+        ("1 ", 2),
+        ("1  poll", 2),
+        ("1 forget", 2),
+        ("1 Poll", 2),
+        ("1 poll\r", 2),
+        ("1 poll\0", 2),
+        ("1 tick 1", 2),
+        ("tick", 4),
+        ("tick ", 5),
+        ("tick -1", 5),
+        ("tick 01", 5),
+        ("tick 18446744073709551616", 5),
+        ("tick 1 1", 7),
+        ("1 up 1", 5),
+        ("1 list ", 7),
+        ("1 create 1024", 9),
+        ("1 crash", 7),
+        ("1 crash 5", 8),
+        ("1 crash 0 0", 10),
+        ("1 fuse 4294967296 0", 7),
+        ("1 fuse 0", 8),
+        ("1 fuse 0 5", 9),
+        ("1 fail 4294967296", 7),
+        ("1 begin", 7),
+        ("1 begin ", 8),
+        ("1 begin a/b", 8),
+        (
+            "1 begin 01234567890123456789012345678901234567890123456789012345678901234",
+            8,
+        ),
+        ("1 begin a b", 10),
+        ("2 read 65 1", 7),
+        ("2 read 0 1", 7),
+        ("2 read 1 0", 9),
+        ("2 hold 1 4294967296", 9),
+        ("2 look 1", 8),
+        ("2 free 1 1 ", 11),
+        ("2 end 65", 6),
+        ("1 commit a", 10),
+        ("1 commit a 4294967296", 11),
+        ("1 commit a 1 0=aa", 13),
+        ("1 commit a 1 1", 13),
+        ("1 commit a 1 1=", 13),
+        ("1 commit a 1 =aa", 13),
+        ("1 commit a 1 1=aA", 13),
+        ("1 commit a 1 1=a", 13),
+        ("1 commit a 1 1==aa", 13),
+        ("1 commit a 9 2=aa 2=bb", 18),
+        ("1 commit a 9 2=aa 3=bb 1=cc", 23),
+        ("1 commit a 9 2=aa ", 18),
+        ("1 new a - 0", 10),
+        ("1 new a 0A", 8),
+        ("1 new a 0g", 8),
+        ("1 new a  00", 8),
+        ("1 copy a b c", 11),
+        ("1 drop", 6),
+        ("1 step 17 lose", 7),
+        ("1 step 1 lose", 9),
+        ("1 step 1 ", 9),
+        ("1 step 1 fail fail", 14),
+    ] {
+        let read = read_line(rt.alloc(), &SPEC, bytes_of(line));
+        assert_eq!(rt; read.err(), Some(LineFault::BadLine { at }), "{line}");
+    }
 }
 
 #[test]
@@ -124,18 +208,57 @@ fn whole_pages(rt: HostRuntime) -> Result<(), Fail> {
     line.resize(8 + 1024, b'7')?;
     assert_eq!(rt;
         shown_bytes(rt.alloc(), &line)?.as_str(),
-        "1 new a 512: 1 512:119"
+        "1 new a 512: 512:119"
     );
     line.resize(8 + 1026, b'7')?;
-    assert_eq!(rt; shown_bytes(rt.alloc(), &line)?.as_str(), "bad");
+    assert_eq!(rt; shown_bytes(rt.alloc(), &line)?.as_str(), "bad 8");
     Ok(())
 }
 
-fn bytes_of(text: &str) -> &[u8]
-    ensures { length result.now ≤ 1048576 }
-{
-    let bytes = text.as_bytes();
-    &bytes[..bytes.len().min(1048576)]
+#[test]
+fn pairs(rt: HostRuntime) -> Result<(), Fail> {
+    for (after, line, want) in [
+        (0u32, "1=-", "1:"),
+        (0, "1=00", "1: 0"),
+        (6, "7=0aff", "7: 10 255"),
+        (4294967294, "4294967295=ff", "4294967295: 255"),
+        (7, "7=0aff", "bad 0"),
+        (4294967295, "4294967295=ff", "bad 0"),
+        (0, "", "bad 0"),
+        (0, "01=ff", "bad 0"),
+        (0, "1=f", "bad 0"),
+        (0, "1", "bad 0"),
+        (0, "1=", "bad 0"),
+        (0, "1=ff ", "bad 5"),
+        (0, "1=ff 2=ff", "bad 5"),
+    ] {
+        assert_eq!(rt;
+            shown_pair(rt.alloc(), after, line)?.as_str(),
+            want,
+            "{line}"
+        );
+    }
+    Ok(())
+}
+
+fn shown_pair(alloc: Global, after: u32, line: &str) -> Result<String, AllocError> {
+    match read_pair(alloc, after, bytes_of(line)) {
+        Ok((page, bytes)) => {
+            let mut text = format!(in alloc; "{page}:")?;
+            for byte in &bytes {
+                text.push_str(format!(in alloc; " {byte}")?.as_str())?;
+            }
+            Ok(text)
+        }
+        Err(fault) => shown_fault(alloc, fault),
+    }
+}
+
+fn shown_fault(alloc: Global, fault: LineFault) -> Result<String, AllocError> {
+    match fault {
+        LineFault::BadLine { at } => format!(in alloc; "bad {at}"),
+        LineFault::NoMemory => Err(AllocError),
+    }
 }
 
 fn shown(alloc: Global, line: &str) -> Result<String, AllocError> {
@@ -147,51 +270,79 @@ fn shown_bytes(alloc: Global, line: &[u8]) -> Result<String, AllocError> {
         return String::from_str(alloc, "long");
     }
     match read_line(alloc, &SPEC, line) {
-        Ok(
-            Event::Of {
-                client,
-                act: Act::Ask(ask, Outcome::Ok),
-            },
-        ) => shown_ask(alloc, client, &ask),
-        Ok(
-            Event::Of {
-                client,
-                act: Act::Ask(Ask::Step { task }, Outcome::Fail),
-            },
-        ) => format!(in alloc; "{client} step {task} fail"),
-        Ok(_) => String::from_str(alloc, "other"),
-        Err(LineFault::BadLine) => String::from_str(alloc, "bad"),
-        Err(LineFault::NoMemory) => Err(AllocError),
+        Ok(Event::Tick(seconds)) => format!(in alloc; "tick {seconds}"),
+        Ok(Event::Of { client, act }) => {
+            let text = shown_act(alloc, &act)?;
+            format!(in alloc; "{client} {text}")
+        }
+        Err(fault) => shown_fault(alloc, fault),
     }
 }
 
-fn shown_ask(alloc: Global, client: u8, ask: &Ask) -> Result<String, AllocError> {
+fn shown_act(alloc: Global, act: &Act) -> Result<String, AllocError> {
+    match act {
+        Act::Up => String::from_str(alloc, "up"),
+        Act::Crash { image } => format!(in alloc; "crash {image}"),
+        Act::Fuse { calls, image } => format!(in alloc; "fuse {calls} {image}"),
+        Act::FailAt { calls } => format!(in alloc; "fail {calls}"),
+        Act::Ask(Ask::Step { task }, outcome) => {
+            let outcome = match outcome {
+                Outcome::Ok => "ok",
+                Outcome::Fail => "fail",
+                Outcome::Lost => "lost",
+            };
+            format!(in alloc; "step {task} {outcome}")
+        }
+        Act::Ask(ask, Outcome::Ok) => shown_ask(alloc, ask),
+        Act::Ask(_, _) => String::from_str(alloc, "not done"),
+    }
+}
+
+fn shown_ask(alloc: Global, ask: &Ask) -> Result<String, AllocError> {
     match ask {
-        Ask::Begin(db) => format!(in alloc; "{client} begin {db:?}"),
-        Ask::Read { txn, page } => format!(in alloc; "{client} read {txn} {page}"),
-        Ask::Create { block, retention } => format!(in alloc;
-            "{client} create {block} {retention}"
-        ),
-        Ask::Step { task } => format!(in alloc; "{client} step {task}"),
-        Ask::Copy { from, to } => format!(in alloc; "{client} copy {from:?} {to:?}"),
-        Ask::Remove(db) => format!(in alloc; "{client} drop {db:?}"),
+        Ask::Begin(db) => format!(in alloc; "begin {db:?}"),
+        Ask::Read { txn, page } => format!(in alloc; "read {txn} {page}"),
+        Ask::Hold { txn, page } => format!(in alloc; "hold {txn} {page}"),
+        Ask::Look { txn, page } => format!(in alloc; "look {txn} {page}"),
+        Ask::Free { txn, page } => format!(in alloc; "free {txn} {page}"),
+        Ask::End { txn } => format!(in alloc; "end {txn}"),
+        Ask::Commit { db, commit } => {
+            let mut text = format!(in alloc; "commit {db:?} {}:", commit.size)?;
+            for (number, page) in commit.pages.items() {
+                let page = shown_page(alloc, page)?;
+                text.push_str(format!(in alloc; " {number}={page}")?.as_str())?;
+            }
+            Ok(text)
+        }
+        Ask::Revert(db) => format!(in alloc; "revert {db:?}"),
+        Ask::List => String::from_str(alloc, "list"),
+        Ask::Create { block, retention } => format!(in alloc; "create {block} {retention}"),
         Ask::NewDb {
             db,
             page_size,
             pages,
         } => {
-            let mut text = format!(in alloc;
-                "{client} new {db:?} {page_size}: {}",
-                pages.items().len()
-            )?;
+            let mut text = format!(in alloc; "new {db:?} {page_size}:")?;
             for page in pages.items() {
-                let first = page.items().first().copied().unwrap_or(0);
-                text.push_str(format!(in alloc; " {}:{first}", page.items().len())?.as_str())?;
+                let page = shown_page(alloc, page)?;
+                text.push_str(format!(in alloc; " {page}")?.as_str())?;
             }
             Ok(text)
         }
-        _ => String::from_str(alloc, "other"),
+        Ask::Upload(db) => format!(in alloc; "upload {db:?}"),
+        Ask::Copy { from, to } => format!(in alloc; "copy {from:?} {to:?}"),
+        Ask::Remove(db) => format!(in alloc; "drop {db:?}"),
+        Ask::Poll => String::from_str(alloc, "poll"),
+        Ask::Cleanup => String::from_str(alloc, "cleanup"),
+        Ask::Resolve => String::from_str(alloc, "resolve"),
+        Ask::Step { task } => format!(in alloc; "step {task}"),
     }
+}
+
+// A page's length and its first byte.
+fn shown_page(alloc: Global, page: &Seq<u8>) -> Result<String, AllocError> {
+    let first = page.items().first().copied().unwrap_or(0);
+    format!(in alloc; "{}:{first}", page.items().len())
 }
 
 #[test]

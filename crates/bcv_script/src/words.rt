@@ -1,7 +1,10 @@
-ghost use Rattle.std.specs.Prelude.{◌≡◌, ◌∷◌, ◌==◌, [], MatchOption, Option};
+ghost use Rattle.std.specs.Prelude.{◌≡◌, ◌≢◌, ◌==◌, [], true, false, Err, Option};
 ghost use Rattle.std.specs.List.{position};
-ghost use Rattle.bcv_script.specs.Left.{HasMore};
+ghost use Rattle.bcv_model.specs.Script.{ended};
+ghost use Rattle.bcv_script.specs.Left.{TakesWord, HasMore};
+ghost use Rattle.bcv_script.specs.Reading.{Gives};
 
+use crate::stop::Stop;
 use std::marker::Model;
 
 // The words of a line that are left, parted by exactly one space.
@@ -32,30 +35,42 @@ impl<'a> Words<'a> {
         Words { rest: Some(line) }
     }
 
-    // Takes the next word, where one is left.
-    pub fn next(&mut self) -> Option<&'a [u8]>
-        ensures { MatchOption result ((self.old ≡ []) × (self.new ≡ [])) (λ w. self.old ≡ w.now ∷ self.new) }
+    // Whether the line was taken to its end.
+    pub fn is_empty(&self) -> bool
+        ensures yes { result ≡ true → self.now ≡ [] }
+        ensures no { result ≡ false → HasMore self.now }
     {
-        let line = self.rest?;
+        match self.rest {
+            Some(_) => false,
+            None => true,
+        }
+    }
+
+    // Takes the next word, with the number of bytes that the line has from it on.
+    pub fn word(&mut self) -> Result<(&'a [u8], usize), Stop>
+        ensures { TakesWord result self.old self.new }
+    {
+        let line = self.rest.ok_or(Stop::Fault(0))?;
         match space_in(line) {
             Some(end) => {
                 self.rest = Some(&line[end + 1..]);
-                Some(&line[..end])
+                Ok((&line[..end], line.len()))
             }
             None => {
                 self.rest = None;
-                Some(line)
+                Ok((line, line.len()))
             }
         }
     }
 
-    // Whether the words end here: `None` where another one follows.
-    pub fn end(&mut self) -> Option<()>
-        ensures { MatchOption result (HasMore self.old) (λ _. self.old ≡ []) }
+    // Stops where another word follows.
+    pub fn end(&self) -> Result<(), Stop>
+        ensures ended { Gives (λ _. tt) result (ended self.now) }
+        ensures takes_no_memory { result ≢ Err Stop.NoMemory }
     {
-        match self.next() {
-            Some(_) => None,
-            None => Some(()),
+        match self.rest {
+            Some(line) => Err(Stop::Fault(line.len())),
+            None => Ok(()),
         }
     }
 }

@@ -1,18 +1,22 @@
--- What the lines of the grammar keep to: the sizes of a world line, and those of an event's line.
-use Rattle.std.proofs.Common.{◌≡◌, ℕ, ◌-◌, ◌^◌, ◌+◌, ◌<◌, ◌≤◌, Bool, true, false, ◌&&◌, List, [], ◌∷◌, length, length-append, replicate, Some, None, refl, ap, ◌∙◌, sym, subst, suc, arith}
+-- What the lines of the grammar keep to: the sizes of a world line, and those of an event's line that the world takes.
+use Rattle.std.proofs.Common.{◌≡◌, ℕ, suc, ◌-◌, ◌^◌, ◌+◌, ◌<◌, ◌≤◌, Bool, true, false, ◌&&◌, List, [], ◌∷◌, length, length-append, replicate, Some, None, Result, Ok, Err, refl, ap, ◌∙◌, sym, subst, arith}
 use Rattle.std.specs.Prelude.{Option, nat_le, codes, if◌then◌else◌, ◌==◌}
+use Rattle.std.specs.Option.{ok_or}
 use Rattle.std.specs.Str.{bytes_eq}
-use Rattle.std.proofs.lemmas.Bool.{eqb-true}
-use Rattle.std.proofs.lemmas.Grind.{common_steps}
 use Rattle.std.specs.List.{AllByRecursion}
+use Rattle.std.proofs.lemmas.Bool.{eqb-true, false≢true}
+use Rattle.std.proofs.lemmas.Grind.{common_steps}
 use Rattle.std.proofs.lemmas.List.{length-replicate}
 use Rattle.std.proofs.lemmas.List.Splits.{length-slice_split}
 use Rattle.std.proofs.lemmas.List.Sums.{count_by-le-length}
 use Rattle.bcv_base.specs.Image.{Page}
+use Rattle.bcv_base.specs.ManifestGrammar.{◌>>=◌, placed}
+use Rattle.bcv_base.specs.ManifestRules.{is_block_size, is_page_size}
 use Rattle.bcv_base.specs.declared.outcome.Outcome.{Outcome}
 use Rattle.bcv_base.specs.declared.outcome.Outcome.TheVariants as outcome
 use Rattle.bcv_model.specs.declared.ask.Ask.{Ask}
 use Rattle.bcv_model.specs.declared.ask.Ask.TheVariants as ask
+use Rattle.bcv_model.specs.declared.ask.Commit.{Commit}
 use Rattle.bcv_model.specs.declared.event.Act.{Act}
 use Rattle.bcv_model.specs.declared.event.Act.TheVariants as act
 use Rattle.bcv_model.specs.declared.event.Event.{Event}
@@ -20,22 +24,56 @@ use Rattle.bcv_model.specs.declared.event.Event.TheVariants as event
 use Rattle.bcv_model.specs.declared.spec.WorldSpec.{WorldSpec}
 use Rattle.bcv_base.specs.ManifestRules.{is_block_size, is_page_size}
 use Rattle.bcv_base.specs.Padded.{padded}
-use Rattle.bcv_model.specs.Words.{◌>>=◌, words_of, number_in, name_of, is_number, value_of, unhexed, page_from, page_of_word, pages_of_words}
-use Rattle.bcv_model.specs.Script.{given, block_size_of, page_size_of_word, slots_of, world_of_words, world_of, create_of, new_of, begin_of, read_of, copy_of, drop_of, outcome_of, step_of, ask_of, act_of, event_of_words, event_of}
+use Rattle.bcv_model.specs.declared.verb.Verb.{Verb}
+use Rattle.bcv_model.specs.declared.verb.Verb.TheVariants as verb
+use Rattle.bcv_model.specs.Script.{word_at, last_word_at, ended, pages_at, count_in, image_in, txn_in, fuse_at, txn_and_page_at, names_at, commit_at, new_at, step_at, world_at, world_of, act_at, asking, verbs, tick_at, client_at, event_at, event_of}
+use Rattle.bcv_model.specs.Words as words
+use Rattle.bcv_model.specs.Words.{words_of, bytes_left, given, exactly, is_number, value_of, number_in, block_size_of, page_size_of_word, slots_of, name_of, bytes_of_text, page_of_text, unhexed, meaning_in}
 use Rattle.bcv_world.specs.Given.{is_world, IsSpec, IsKeptOutcome, KeepsPages, KeepsAsk, Keeps}
+use Rattle.bcv_top.specs.Taken.{is_taken, is_taken_act, is_taken_ask, is_taken_outcome}
 
 -- ---- one reading after another
 
-bind_some : {A B : Type 0} (o : Option A) (f : A → Option B) (y : B) → (o >>= f) ≡ Some y → (x : A) × (o ≡ Some x) × (f x ≡ Some y)
+bind_some : {A B : Type 0} (o : Option A) (f : A → Option B) (y : B) → words.◌>>=◌ o f ≡ Some y → (x : A) × (o ≡ Some x) × (f x ≡ Some y)
 bind_some None f y e = cc
 bind_some (Some x) f y e = (x, refl, e)
+
+bind_ok : {A B : Type 0} (r : Result A ℕ) (f : A → Result B ℕ) (y : B) → (r >>= f) ≡ Ok y → (x : A) × (r ≡ Ok x) × (f x ≡ Ok y)
+bind_ok (Ok x) f y e = (x, refl, e)
+bind_ok (Err left) f y e = cc
 
 some_is : {A : Type 0} (x y : A) → Some x ≡ Some y → x ≡ y
 some_is x y e = cc
 
+ok_is : {A : Type 0} (x y : A) → ◌≡◌ {A = Result A ℕ} (Ok x) (Ok y) → x ≡ y
+ok_is x y e = cc
+
+some_of_ok : {A : Type 0} (o : Option A) (n : ℕ) (x : A) → ok_or o n ≡ Ok x → o ≡ Some x
+some_of_ok None n x e = cc
+some_of_ok (Some y) n x e = cc
+
 given_some : {A : Type 0} (t : Bool) (x y : A) → given t x ≡ Some y → (t ≡ true) × (x ≡ y)
 given_some true x y e = (refl, some_is x y e)
 given_some false x y e = cc
+
+-- the word that was read, and those after it
+word_ok : {A : Type 0} (meaning : List ℕ → Option A) (ws : List (List ℕ)) (x : A × List (List ℕ)) → word_at meaning ws ≡ Ok x → (w : List ℕ) × (ws ≡ w ∷ x.1) × (meaning w ≡ Some x.0)
+word_ok meaning [] x e = cc
+word_ok {A = A} meaning (w ∷ ws) x e =
+    let b = bind_ok (ok_or (meaning w) (bytes_left (w ∷ ws))) (λ (y : A). Ok (y, ws)) x e in
+    let same = ok_is (b.0, ws) x b.2 in
+    (w, ap (λ (p : A × List (List ℕ)). w ∷ p.1) same, some_of_ok (meaning w) (bytes_left (w ∷ ws)) b.0 b.1 ∙ ap (λ (p : A × List (List ℕ)). Some p.0) same)
+
+last_ok : {A : Type 0} (meaning : List ℕ → Option A) (ws : List (List ℕ)) (x : A) → last_word_at meaning ws ≡ Ok x → (w : List ℕ) × (meaning w ≡ Some x)
+last_ok {A = A} meaning ws x e =
+    let y = bind_ok (word_at meaning ws) (λ (y : A × List (List ℕ)). ended y.1 >>= λ u. Ok y.0) x e in
+    let u = bind_ok (ended y.0.1) (λ (u : Unit {0}). Ok y.0.0) x y.2 in
+    let w = word_ok meaning ws y.0 y.1 in
+    (w.0, w.2 ∙ ap (λ (a : A). Some a) (ok_is y.0.0 x u.2))
+
+placed_ok : {A : Type 0} (total : ℕ) (r : Result A ℕ) (x : A) → placed total r ≡ Ok x → r ≡ Ok x
+placed_ok total (Ok y) x e = e
+placed_ok total (Err left) x e = cc
 
 in_range : (t : Bool) (low v high n : ℕ) → (if t && nat_le low v && nat_le v high then Some v else None) ≡ Some n → (low ≤ n) × (n ≤ high)
 in_range t low v high n e = grind (arith, common_steps)
@@ -57,21 +95,6 @@ page_ok block w p e =
     let g = given_some (is_page_size block n.0) n.0 p n.2 in
     subst (λ (x : ℕ). is_page_size block x ≡ true) g.1 g.0
 
-abbrev after_retention : ℕ → ℕ → ℕ → List ℕ → ℕ → Option WorldSpec
-after_retention c b p slots r = slots_of b slots >>= λ s. Some (record { clients = c; block = b; page = p; retention = r; slots = s })
-
-abbrev after_page : ℕ → ℕ → List ℕ → List ℕ → ℕ → Option WorldSpec
-after_page c b retention slots p = number_in 0 (2 ^ 64 - 1) retention >>= after_retention c b p slots
-
-abbrev after_block : ℕ → List ℕ → List ℕ → List ℕ → ℕ → Option WorldSpec
-after_block c page retention slots b = page_size_of_word b page >>= after_page c b retention slots
-
-abbrev after_clients : List ℕ → List ℕ → List ℕ → List ℕ → ℕ → Option WorldSpec
-after_clients block page retention slots c = block_size_of block >>= after_block c page retention slots
-
-abbrev after_word : List ℕ → List ℕ → List ℕ → List ℕ → List ℕ → List ℕ → Option WorldSpec
-after_word clients block page retention slots word = number_in 1 16 clients >>= after_clients block page retention slots
-
 abbrev spec_with : ℕ → ℕ → ℕ → ℕ → ℕ → WorldSpec
 spec_with c b p r s = record { clients = c; block = b; page = p; retention = r; slots = s }
 
@@ -80,45 +103,46 @@ is_spec c b p r s spec e x y z =
     let here : IsSpec (spec_with c b p r s) = record { block = x; page = y; retention = omega arith } in
     subst IsSpec e here
 
-words_spec : (words : List (List ℕ)) (spec : WorldSpec) → world_of_words words ≡ Some spec → IsSpec spec
-words_spec [] spec e = cc
-words_spec (a ∷ []) spec e = cc
-words_spec (a ∷ b ∷ []) spec e = cc
-words_spec (a ∷ b ∷ c ∷ []) spec e = cc
-words_spec (a ∷ b ∷ c ∷ d ∷ []) spec e = cc
-words_spec (a ∷ b ∷ c ∷ d ∷ f ∷ []) spec e = cc
-words_spec (a ∷ b ∷ c ∷ d ∷ f ∷ g ∷ h ∷ more) spec e = cc
-words_spec (word ∷ clients ∷ block ∷ page ∷ retention ∷ slots ∷ []) spec e =
-    let w = bind_some (given (bytes_eq word (codes "world")) word) (after_word clients block page retention slots) spec e in
-    let c = bind_some (number_in 1 16 clients) (after_clients block page retention slots) spec w.2 in
-    let b = bind_some (block_size_of block) (after_block c.0 page retention slots) spec c.2 in
-    let p = bind_some (page_size_of_word b.0 page) (after_page c.0 b.0 retention slots) spec b.2 in
-    let r = bind_some (number_in 0 (2 ^ 64 - 1) retention) (after_retention c.0 b.0 p.0 slots) spec p.2 in
-    let s = bind_some (slots_of b.0 slots) (λ (s : ℕ). Some (spec_with c.0 b.0 p.0 r.0 s)) spec r.2 in
-    is_spec c.0 b.0 p.0 r.0 s.0 spec (some_is (spec_with c.0 b.0 p.0 r.0 s.0) spec s.2) (block_ok block b.0 b.1) (page_ok b.0 page p.0 p.1) (number_in_range 0 (2 ^ 64 - 1) retention r.0 r.1).1
+-- what is read after each word
+abbrev after_retention : ℕ → ℕ → ℕ → (ℕ × List (List ℕ)) → Result WorldSpec ℕ
+after_retention c b p r = last_word_at (slots_of b) r.1 >>= λ s. Ok (spec_with c b p r.0 s)
 
-pub world_spec : (line : List ℕ) (spec : WorldSpec) → world_of line ≡ Some spec → IsSpec spec
+abbrev after_page : ℕ → ℕ → (ℕ × List (List ℕ)) → Result WorldSpec ℕ
+after_page c b p = word_at (number_in 0 (2 ^ 64 - 1)) p.1 >>= after_retention c b p.0
+
+abbrev after_block : ℕ → (ℕ × List (List ℕ)) → Result WorldSpec ℕ
+after_block c b = word_at (page_size_of_word b.0) b.1 >>= after_page c b.0
+
+abbrev after_clients : (ℕ × List (List ℕ)) → Result WorldSpec ℕ
+after_clients c = word_at block_size_of c.1 >>= after_block c.0
+
+abbrev after_word : (List ℕ × List (List ℕ)) → Result WorldSpec ℕ
+after_word w = word_at (number_in 1 16) w.1 >>= after_clients
+
+words_spec : (ws : List (List ℕ)) (spec : WorldSpec) → world_at ws ≡ Ok spec → IsSpec spec
+unfolding world_at
+words_spec ws spec e =
+    let w = bind_ok (word_at (exactly (codes "world")) ws) after_word spec e in
+    let c = bind_ok (word_at (number_in 1 16) w.0.1) after_clients spec w.2 in
+    let b = bind_ok (word_at block_size_of c.0.1) (after_block c.0.0) spec c.2 in
+    let p = bind_ok (word_at (page_size_of_word b.0.0) b.0.1) (after_page c.0.0 b.0.0) spec b.2 in
+    let r = bind_ok (word_at (number_in 0 (2 ^ 64 - 1)) p.0.1) (after_retention c.0.0 b.0.0 p.0.0) spec p.2 in
+    let s = bind_ok (last_word_at (slots_of b.0.0) r.0.1) (λ (s : ℕ). Ok (spec_with c.0.0 b.0.0 p.0.0 r.0.0 s)) spec r.2 in
+    let block = word_ok block_size_of c.0.1 b.0 b.1 in
+    let page = word_ok (page_size_of_word b.0.0) b.0.1 p.0 p.1 in
+    let retention = word_ok (number_in 0 (2 ^ 64 - 1)) p.0.1 r.0 r.1 in
+    is_spec c.0.0 b.0.0 p.0.0 r.0.0 s.0 spec (ok_is (spec_with c.0.0 b.0.0 p.0.0 r.0.0 s.0) spec s.2) (block_ok block.0 b.0.0 block.2) (page_ok b.0.0 page.0 p.0.0 page.2)
+    (number_in_range 0 (2 ^ 64 - 1) retention.0 r.0.0 retention.2).1
+
+pub world_spec : (line : List ℕ) (spec : WorldSpec) → world_of line ≡ Ok spec → IsSpec spec
 unfolding world_of
-world_spec line spec e = words_spec (words_of line) spec e
+world_spec line spec e = words_spec (words_of line) spec (placed_ok (length line) (world_at (words_of line)) spec e)
 
--- ---- the lines of events
+-- ---- pages
 
 -- there are no more words than one and the spaces
 words_few : (line : List ℕ) → length (words_of line) ≤ length line + 1
 words_few line = omega (arith, length-slice_split (λ b. b == 32) line, count_by-le-length (λ b. b == 32) line)
-
--- what was read keeps to the world, where something was
-abbrev IsKept : WorldSpec → Option Ask → Type 0
-IsKept spec None = Unit {0}
-IsKept spec (Some q) = KeepsAsk spec q outcome.Ok
-
-bind_kept : {A : Type 0} (spec : WorldSpec) (o : Option A) (f : A → Option Ask) → ((x : A) → o ≡ Some x → IsKept spec (f x)) → IsKept spec (o >>= f)
-bind_kept spec None f h = tt
-bind_kept spec (Some x) f h = h x refl
-
-if_kept : (spec : WorldSpec) (t : Bool) (a b : Option Ask) → IsKept spec a → IsKept spec b → IsKept spec (if t then a else b)
-if_kept spec true a b p q = p
-if_kept spec false a b p q = q
 
 padded_length : (size : ℕ) (bytes : List ℕ) → length bytes ≤ size → length (padded size bytes) ≡ size
 padded_length size bytes h = omega (arith, length-append bytes (replicate (size - length bytes) 0), length-replicate {A = ℕ} (size - length bytes) 0)
@@ -126,136 +150,127 @@ padded_length size bytes h = omega (arith, length-append bytes (replicate (size 
 short_of : (t : Bool) (n most : ℕ) → (t && nat_le n most) ≡ true → n ≤ most
 short_of t n most e = grind (arith, common_steps)
 
-from_length : (size : ℕ) (bytes page : List ℕ) → page_from size bytes ≡ Some page → length page ≡ size
-from_length size bytes page e =
-    let g = given_some (nat_le 1 (length bytes) && nat_le (length bytes) size) (padded size bytes) page e in
-    let small = short_of (nat_le 1 (length bytes)) (length bytes) size g.0 in
-    subst (λ (l : List ℕ). length l ≡ size) g.1 (padded_length size bytes small)
+-- a text writes at most a page
+either_short : (size : ℕ) (t : Bool) (o : Option (List ℕ)) (bytes : List ℕ) → (if t then Some [] else words.◌>>=◌ o (λ bs. given (nat_le 1 (length bs) && nat_le (length bs) size) bs)) ≡ Some bytes → length bytes ≤ size
+either_short size true o bytes e = let none = ap (λ (b : List ℕ). length b) (some_is [] bytes e) in omega (arith, none)
+either_short size false o bytes e =
+    let b = bind_some o (λ (bs : List ℕ). given (nat_le 1 (length bs) && nat_le (length bs) size) bs) bytes e in
+    let g = given_some (nat_le 1 (length b.0) && nat_le (length b.0) size) b.0 bytes b.2 in
+    subst (λ (l : List ℕ). length l ≤ size) g.1 (short_of (nat_le 1 (length b.0)) (length b.0) size g.0)
 
-word_length : (size : ℕ) (t : Bool) (o : Option (List ℕ)) (page : List ℕ) → (o ≡ Some page → length page ≡ size) → (if t then Some (replicate size 0) else o) ≡ Some page → length page ≡ size
-word_length size true o page h e = subst (λ (l : List ℕ). length l ≡ size) (some_is (replicate size 0) page e) (length-replicate {A = ℕ} size 0)
-word_length size false o page h e = h e
-
-page_length : (size : ℕ) (w page : List ℕ) → page_of_word size w ≡ Some page → length page ≡ size
+page_length : (size : ℕ) (w : List ℕ) (page : Page) → page_of_text size w ≡ Some page → length page ≡ size
 page_length size w page e =
-    word_length size (bytes_eq w (45 ∷ [])) (unhexed w >>= λ bs. page_from size bs) page
-    (λ f. let b = bind_some (unhexed w) (λ (bs : List ℕ). page_from size bs) page f in from_length size b.0 page b.2) e
+    let b = bind_some (bytes_of_text size w) (λ (bytes : List ℕ). Some (padded size bytes)) page e in
+    subst (λ (l : Page). length l ≡ size) (some_is (padded size b.0) page b.2) (padded_length size b.0 (either_short size (bytes_eq w (codes "-")) (unhexed w) b.0 b.1))
 
-pages_lengths : (size : ℕ) (ws : List (List ℕ)) (ps : List Page) → pages_of_words size ws ≡ Some ps → AllByRecursion (λ (p : Page). length p ≡ size) ps
-pages_lengths size [] ps e = subst (AllByRecursion (λ (p : Page). length p ≡ size)) (some_is {A = List Page} [] ps e) tt
-pages_lengths size (w ∷ ws) ps e =
-    let p = bind_some {A = Page} {B = List Page} (page_of_word size w) (λ (p : Page). pages_of_words size ws >>= λ qs. Some (p ∷ qs)) ps e in
-    let q = bind_some {A = List Page} {B = List Page} (pages_of_words size ws) (λ (qs : List Page). Some (p.0 ∷ qs)) ps p.2 in
-    let here : AllByRecursion (λ (p : Page). length p ≡ size) (p.0 ∷ q.0) = (page_length size w p.0 p.1, pages_lengths size ws q.0 q.1) in
-    subst (AllByRecursion (λ (p : Page). length p ≡ size)) (some_is {A = List Page} (p.0 ∷ q.0) ps q.2) here
+-- each word wrote a page of the size
+record ReadPages (size : ℕ) (ws : List (List ℕ)) (ps : List Page) : Type 0 where
+  each : AllByRecursion (λ (p : Page). length p ≡ size) ps
+  count : length ps ≡ length ws
 
--- each page is a word
-pages_count : (size : ℕ) (ws : List (List ℕ)) (ps : List Page) → pages_of_words size ws ≡ Some ps → length ps ≡ length ws
-pages_count size [] ps e = sym (ap (λ (l : List Page). length l) (some_is {A = List Page} [] ps e))
-pages_count size (w ∷ ws) ps e =
-    let p = bind_some {A = Page} {B = List Page} (page_of_word size w) (λ (p : Page). pages_of_words size ws >>= λ qs. Some (p ∷ qs)) ps e in
-    let q = bind_some {A = List Page} {B = List Page} (pages_of_words size ws) (λ (qs : List Page). Some (p.0 ∷ qs)) ps p.2 in
-    sym (ap (λ (l : List Page). length l) (some_is {A = List Page} (p.0 ∷ q.0) ps q.2)) ∙ ap suc (pages_count size ws q.0 q.1)
+pages_read : (size : ℕ) (ws : List (List ℕ)) (ps : List Page) → pages_at size ws ≡ Ok ps → ReadPages size ws ps
+pages_read size [] ps e =
+    let none : ReadPages size [] [] = record { each = tt; count = refl } in
+    subst (ReadPages size []) (ok_is {A = List Page} [] ps e) none
+pages_read size (w ∷ ws) ps e =
+    let p = bind_ok (ok_or (page_of_text size w) (bytes_left (w ∷ ws))) _ ps e in
+    let q = bind_ok (pages_at size ws) _ ps p.2 in
+    let more = pages_read size ws q.0 q.1 in
+    let here : ReadPages size (w ∷ ws) (p.0 ∷ q.0) = record { each = (page_length size w p.0 (some_of_ok (page_of_text size w) (bytes_left (w ∷ ws)) p.0 p.1), more.each); count = ap suc more.count } in
+    subst (ReadPages size (w ∷ ws)) (ok_is {A = List Page} (p.0 ∷ q.0) ps q.2) here
 
-create_kept : (spec : WorldSpec) (words : List (List ℕ)) → IsKept spec (create_of spec words)
-create_kept spec [] = (refl, refl, refl)
-create_kept spec (w ∷ ws) = tt
+-- ---- what happens to a client
 
-begin_kept : (spec : WorldSpec) (words : List (List ℕ)) → IsKept spec (begin_of words)
-begin_kept spec [] = tt
-begin_kept spec (db ∷ []) = bind_kept spec (name_of db) (λ (d : List ℕ). Some (ask.Begin d)) (λ d e. refl)
-begin_kept spec (a ∷ b ∷ ws) = tt
+-- what was read keeps to the world, where something was that the world takes
+abbrev IsKept : WorldSpec → Result Act ℕ → Type 0
+IsKept spec (Err left) = Unit {0}
+IsKept spec (Ok what) = is_taken_act what ≡ true → Keeps spec (event.Of 1 what)
 
-copy_kept : (spec : WorldSpec) (words : List (List ℕ)) → IsKept spec (copy_of words)
-copy_kept spec [] = tt
-copy_kept spec (a ∷ []) = tt
-copy_kept spec (from ∷ to ∷ []) =
-    bind_kept spec (name_of from) (λ (a : List ℕ). name_of to >>= λ b. Some (ask.Copy a b)) (λ a e. bind_kept spec (name_of to) (λ (b : List ℕ). Some (ask.Copy a b)) (λ b f. refl))
-copy_kept spec (a ∷ b ∷ c ∷ ws) = tt
+bind_kept : {A : Type 0} (spec : WorldSpec) (r : Result A ℕ) (f : A → Result Act ℕ) → ((x : A) → r ≡ Ok x → IsKept spec (f x)) → IsKept spec (r >>= f)
+bind_kept spec (Err left) f h = tt
+bind_kept spec (Ok x) f h = h x refl
 
-drop_kept : (spec : WorldSpec) (words : List (List ℕ)) → IsKept spec (drop_of words)
-drop_kept spec [] = tt
-drop_kept spec (db ∷ []) = bind_kept spec (name_of db) (λ (d : List ℕ). Some (ask.Remove d)) (λ d e. refl)
-drop_kept spec (a ∷ b ∷ ws) = tt
+new_pages : (spec : WorldSpec) (ws : List (List ℕ)) (x : List ℕ × List Page) → length ws < 2 ^ 31 → new_at spec.page ws ≡ Ok x → KeepsPages spec spec.page x.1
+new_pages spec ws x few e =
+    let d = bind_ok (word_at name_of ws) _ x e in
+    let p = bind_ok (pages_at spec.page d.0.1) _ x d.2 in
+    let w = word_ok name_of ws d.0 d.1 in
+    let read = pages_read spec.page d.0.1 p.0 p.1 in
+    let here : KeepsPages spec spec.page p.0 = record { same_size = refl; each = read.each; few = omega (arith, read.count, ap (λ (l : List (List ℕ)). length l) w.1, few) } in
+    subst (λ (y : List ℕ × List Page). KeepsPages spec spec.page y.1) (ok_is (d.0.0, p.0) x p.2) here
 
-read_kept : (spec : WorldSpec) (words : List (List ℕ)) → IsKept spec (read_of words)
-read_kept spec [] = tt
-read_kept spec (x ∷ []) = tt
-read_kept spec (x ∷ p ∷ []) =
-    bind_kept spec (number_in 1 64 x) (λ (txn : ℕ). number_in 1 (2 ^ 32 - 1) p >>= λ page. Some (ask.Read txn page))
-    (λ txn e. bind_kept spec (number_in 1 (2 ^ 32 - 1) p) (λ (page : ℕ). Some (ask.Read txn page)) (λ page f. refl))
-read_kept spec (a ∷ b ∷ c ∷ ws) = tt
+outcome_kept : (o : Outcome) → is_taken_outcome o ≡ true → IsKeptOutcome o
+outcome_kept outcome.Ok t = tt
+outcome_kept outcome.Fail t = tt
+outcome_kept outcome.Lost t = cc
 
-new_kept : (spec : WorldSpec) (words : List (List ℕ)) → length words < 2 ^ 31 → IsKept spec (new_of spec words)
-new_kept spec [] few = tt
-new_kept spec (db ∷ texts) few =
-    bind_kept spec (name_of db) (λ (d : List ℕ). pages_of_words spec.page texts >>= λ ps. Some (ask.NewDb d spec.page ps))
-    (λ d e. bind_kept spec (pages_of_words spec.page texts) (λ (ps : List Page). Some (ask.NewDb d spec.page ps))
-    (λ ps f.
-    let pages : KeepsPages spec spec.page ps = record { same_size = refl; each = pages_lengths spec.page texts ps f; few = omega (arith, pages_count spec.page texts ps f, few) } in
-    (refl, pages)))
+act_kept : (spec : WorldSpec) (v : Verb) (ws : List (List ℕ)) → length ws < 2 ^ 31 → IsKept spec (act_at spec v ws)
+unfolding act_at
+act_kept spec verb.Up ws few = bind_kept spec (ended ws) (λ (u : Unit {0}). Ok act.Up) (λ x e t. cc)
+act_kept spec verb.Crash ws few = bind_kept spec (last_word_at image_in ws) (λ (image : ℕ). Ok (act.Crash image)) (λ x e t. cc)
+act_kept spec verb.Fuse ws few = bind_kept spec (fuse_at ws) (λ (x : ℕ × ℕ). Ok (act.Fuse x.0 x.1)) (λ x e t. cc)
+act_kept spec verb.Fail ws few = bind_kept spec (last_word_at count_in ws) (λ (calls : ℕ). Ok (act.FailAt calls)) (λ x e t. cc)
+act_kept spec verb.Begin ws few = bind_kept spec (last_word_at name_of ws) (λ (db : List ℕ). Ok (asking (ask.Begin db))) (λ x e t. (refl, refl))
+act_kept spec verb.Read ws few = bind_kept spec (txn_and_page_at ws) (λ (x : ℕ × ℕ). Ok (asking (ask.Read x.0 x.1))) (λ x e t. (refl, refl))
+act_kept spec verb.Hold ws few = bind_kept spec (txn_and_page_at ws) (λ (x : ℕ × ℕ). Ok (asking (ask.Hold x.0 x.1))) (λ x e t. cc)
+act_kept spec verb.Look ws few = bind_kept spec (txn_and_page_at ws) (λ (x : ℕ × ℕ). Ok (asking (ask.Look x.0 x.1))) (λ x e t. cc)
+act_kept spec verb.Free ws few = bind_kept spec (txn_and_page_at ws) (λ (x : ℕ × ℕ). Ok (asking (ask.Free x.0 x.1))) (λ x e t. cc)
+act_kept spec verb.End ws few = bind_kept spec (last_word_at txn_in ws) (λ (txn : ℕ). Ok (asking (ask.End txn))) (λ x e t. cc)
+act_kept spec verb.Commit ws few = bind_kept spec (commit_at spec.page ws) (λ (x : List ℕ × Commit). Ok (asking (ask.Commit x.0 x.1))) (λ x e t. cc)
+act_kept spec verb.Revert ws few = bind_kept spec (last_word_at name_of ws) (λ (db : List ℕ). Ok (asking (ask.Revert db))) (λ x e t. cc)
+act_kept spec verb.List ws few = bind_kept spec (ended ws) (λ (u : Unit {0}). Ok (asking ask.List)) (λ x e t. cc)
+act_kept spec verb.Create ws few = bind_kept spec (ended ws) (λ (u : Unit {0}). Ok (asking (ask.Create spec.block spec.retention))) (λ x e t. (refl, (refl, refl, refl)))
+act_kept spec verb.New ws few = bind_kept spec (new_at spec.page ws) (λ (x : List ℕ × List Page). Ok (asking (ask.NewDb x.0 spec.page x.1))) (λ x e t. (refl, (refl, new_pages spec ws x few e)))
+act_kept spec verb.Upload ws few = bind_kept spec (last_word_at name_of ws) (λ (db : List ℕ). Ok (asking (ask.Upload db))) (λ x e t. cc)
+act_kept spec verb.Copy ws few = bind_kept spec (names_at ws) (λ (x : List ℕ × List ℕ). Ok (asking (ask.Copy x.0 x.1))) (λ x e t. (refl, refl))
+act_kept spec verb.Drop ws few = bind_kept spec (last_word_at name_of ws) (λ (db : List ℕ). Ok (asking (ask.Remove db))) (λ x e t. (refl, refl))
+act_kept spec verb.Poll ws few = bind_kept spec (ended ws) (λ (u : Unit {0}). Ok (asking ask.Poll)) (λ x e t. cc)
+act_kept spec verb.Cleanup ws few = bind_kept spec (ended ws) (λ (u : Unit {0}). Ok (asking ask.Cleanup)) (λ x e t. cc)
+act_kept spec verb.Resolve ws few = bind_kept spec (ended ws) (λ (u : Unit {0}). Ok (asking ask.Resolve)) (λ x e t. cc)
+act_kept spec verb.Step ws few = bind_kept spec (step_at ws) (λ (x : ℕ × Outcome). Ok (act.Ask (ask.Step x.0) x.1)) (λ x e t. (refl, outcome_kept x.1 t))
 
-ask_kept : (spec : WorldSpec) (verb : List ℕ) (words : List (List ℕ)) → length words < 2 ^ 31 → IsKept spec (ask_of spec verb words)
-ask_kept spec verb words few =
-    if_kept spec (bytes_eq verb (codes "begin")) (begin_of words) _ (begin_kept spec words)
-    (if_kept spec (bytes_eq verb (codes "read")) (read_of words) _ (read_kept spec words)
-    (if_kept spec (bytes_eq verb (codes "create")) (create_of spec words) _ (create_kept spec words)
-    (if_kept spec (bytes_eq verb (codes "new")) (new_of spec words) _ (new_kept spec words few)
-    (if_kept spec (bytes_eq verb (codes "copy")) (copy_of words) _ (copy_kept spec words)
-    (if_kept spec (bytes_eq verb (codes "drop")) (drop_of words) None (drop_kept spec words) tt)))))
+kept_of : (spec : WorldSpec) (r : Result Act ℕ) (what : Act) → IsKept spec r → r ≡ Ok what → is_taken_act what ≡ true → Keeps spec (event.Of 1 what)
+kept_of spec (Err left) what k e t = cc
+kept_of spec (Ok y) what k e t =
+    let same = ok_is y what e in
+    let kept : IsKept spec (Ok what) = subst (λ (a : Act). IsKept spec (Ok a)) same k in kept t
 
--- ---- with an outcome
+-- ---- the line
 
-given_outcome : (t : Bool) (o : Outcome) → given t outcome.Fail ≡ Some o → IsKeptOutcome o
-given_outcome true o e = subst IsKeptOutcome (some_is outcome.Fail o e) tt
-given_outcome false o e = cc
-
-outcome_kept : (words : List (List ℕ)) (o : Outcome) → outcome_of words ≡ Some o → IsKeptOutcome o
-outcome_kept [] o e = subst IsKeptOutcome (some_is outcome.Ok o e) tt
-outcome_kept (w ∷ []) o e = given_outcome (bytes_eq w (codes "fail")) o e
-outcome_kept (a ∷ b ∷ ws) o e = cc
-
--- what happens keeps to the world
-abbrev IsKeptAct : WorldSpec → Act → Type 0
-IsKeptAct spec what = Keeps spec (event.Of 1 what)
-
-step_kept : (spec : WorldSpec) (words : List (List ℕ)) (what : Act) → step_of words ≡ Some what → IsKeptAct spec what
-step_kept spec [] what e = cc
-step_kept spec (t ∷ words) what e =
-    let task = bind_some (number_in 1 16 t) (λ (task : ℕ). outcome_of words >>= λ o. Some (act.Ask (ask.Step task) o)) what e in
-    let o = bind_some (outcome_of words) (λ (o : Outcome). Some (act.Ask (ask.Step task.0) o)) what task.2 in
-    let here : IsKeptAct spec (act.Ask (ask.Step task.0) o.0) = (refl, outcome_kept words o.0 o.1) in
-    subst (IsKeptAct spec) (some_is (act.Ask (ask.Step task.0) o.0) what o.2) here
-
-asked_kept : (spec : WorldSpec) (verb : List ℕ) (words : List (List ℕ)) (what : Act) → length words < 2 ^ 31 → (ask_of spec verb words >>= λ q. Some (act.Ask q outcome.Ok)) ≡ Some what → IsKeptAct spec what
-asked_kept spec verb words what few e =
-    let q = bind_some (ask_of spec verb words) (λ (q : Ask). Some (act.Ask q outcome.Ok)) what e in
-    let kept : KeepsAsk spec q.0 outcome.Ok = subst (IsKept spec) q.1 (ask_kept spec verb words few) in
-    let here : IsKeptAct spec (act.Ask q.0 outcome.Ok) = (refl, kept) in
-    subst (IsKeptAct spec) (some_is (act.Ask q.0 outcome.Ok) what q.2) here
-
-either_kept : (spec : WorldSpec) (t : Bool) (a b : Option Act) (what : Act) → (a ≡ Some what → IsKeptAct spec what) → (b ≡ Some what → IsKeptAct spec what) → (if t then a else b) ≡ Some what → IsKeptAct spec what
-either_kept spec true a b what p q e = p e
-either_kept spec false a b what p q e = q e
-
-act_kept : (spec : WorldSpec) (verb : List ℕ) (words : List (List ℕ)) (what : Act) → length words < 2 ^ 31 → act_of spec verb words ≡ Some what → IsKeptAct spec what
-act_kept spec verb words what few e =
-    either_kept spec (bytes_eq verb (codes "step")) (step_of words) (ask_of spec verb words >>= λ q. Some (act.Ask q outcome.Ok)) what (step_kept spec words what) (asked_kept spec verb words what few) e
-
-words_kept : (spec : WorldSpec) (words : List (List ℕ)) (e : Event) → is_world spec ≡ true → length words < 2 ^ 31 → event_of_words spec words ≡ Some e → Keeps spec e
-words_kept spec [] e one few x = cc
-words_kept spec (a ∷ []) e one few x = cc
-words_kept spec (client ∷ verb ∷ words) e one few x =
-    let c = bind_some (number_in 1 spec.clients client) (λ (c : ℕ). act_of spec verb words >>= λ a. Some (event.Of c a)) e x in
-    let a = bind_some (act_of spec verb words) (λ (a : Act). Some (event.Of c.0 a)) e c.2 in
-    let range = number_in_range 1 spec.clients client c.0 c.1 in
+client_kept : (spec : WorldSpec) (ws : List (List ℕ)) (e : Event) → is_world spec ≡ true → length ws < 2 ^ 31 → client_at spec ws ≡ Ok e → is_taken e ≡ true → Keeps spec e
+client_kept spec ws e one few x t =
+    let c = bind_ok (word_at (number_in 1 spec.clients) ws) _ e x in
+    let v = bind_ok (word_at (meaning_in verbs) c.0.1) _ e c.2 in
+    let a = bind_ok (act_at spec v.0.0 v.0.1) _ e v.2 in
+    let client = word_ok (number_in 1 spec.clients) ws c.0 c.1 in
+    let kind = word_ok (meaning_in verbs) c.0.1 v.0 v.1 in
+    let range = number_in_range 1 spec.clients client.0 c.0.0 client.2 in
     let clients = eqb-true spec.clients 1 one in
-    let first : 1 ≡ c.0 = omega (arith, range.0, range.1, clients) in
-    let kept : Keeps spec (event.Of 1 a.0) = act_kept spec verb words a.0 (omega (arith, few)) a.1 in
-    let here : Keeps spec (event.Of c.0 a.0) = subst (λ (n : ℕ). Keeps spec (event.Of n a.0)) first kept in
-    subst (Keeps spec) (some_is (event.Of c.0 a.0) e a.2) here
+    let first : 1 ≡ c.0.0 = omega (arith, range.0, range.1, clients) in
+    let same = ok_is (event.Of c.0.0 a.0) e a.2 in
+    let shorter : length v.0.1 < 2 ^ 31 = omega (arith, ap (λ (l : List (List ℕ)). length l) client.1, ap (λ (l : List (List ℕ)). length l) kind.1, few) in
+    let is : is_taken_act a.0 ≡ true = subst (λ (y : Event). is_taken y ≡ true) (sym same) t in
+    let kept = kept_of spec (act_at spec v.0.0 v.0.1) a.0 (act_kept spec v.0.0 v.0.1 shorter) a.1 is in
+    subst (Keeps spec) same (subst (λ (n : ℕ). Keeps spec (event.Of n a.0)) first kept)
 
--- the event of a line keeps to its world, since a line has at most so many bytes
-pub line_keeps : (spec : WorldSpec) (line : List ℕ) (e : Event) → is_world spec ≡ true → length line ≤ 1048576 → event_of spec line ≡ Some e → Keeps spec e
+tick_not_taken : (ws : List (List ℕ)) (e : Event) → tick_at ws ≡ Ok e → is_taken e ≡ true → ⊥
+tick_not_taken ws e x t =
+    let s = bind_ok (last_word_at (number_in 0 (2 ^ 64 - 1)) ws) _ e x in
+    let not : false ≡ true = subst (λ (y : Event). is_taken y ≡ true) (sym (ok_is (event.Tick s.0) e s.2)) t in
+    false≢true not
+
+either_kept : (spec : WorldSpec) (t : Bool) (a b : Result Event ℕ) (e : Event) → (a ≡ Ok e → ⊥) → (b ≡ Ok e → Keeps spec e) → (if t then a else b) ≡ Ok e → Keeps spec e
+either_kept spec true a b e p q x = absurd (p x)
+either_kept spec false a b e p q x = q x
+
+words_kept : (spec : WorldSpec) (ws : List (List ℕ)) (e : Event) → is_world spec ≡ true → length ws < 2 ^ 31 → event_at spec ws ≡ Ok e → is_taken e ≡ true → Keeps spec e
+unfolding event_at
+words_kept spec [] e one few x t = cc
+words_kept spec (w ∷ ws) e one few x t =
+    either_kept spec (bytes_eq w (codes "tick")) (tick_at ws) (client_at spec (w ∷ ws)) e (λ y. tick_not_taken ws e y t) (λ y. client_kept spec (w ∷ ws) e one few y t) x
+
+-- the event of a line keeps to its world where the world takes it, since a line has at most so many bytes
+pub line_keeps : (spec : WorldSpec) (line : List ℕ) (e : Event) → is_world spec ≡ true → length line ≤ 1048576 → event_of spec line ≡ Ok e → is_taken e ≡ true → Keeps spec e
 unfolding event_of
-line_keeps spec line e one short x = words_kept spec (words_of line) e one (omega (arith, words_few line, short)) x
+line_keeps spec line e one short x t =
+    words_kept spec (words_of line) e one (omega (arith, words_few line, short)) (placed_ok (length line) (event_at spec (words_of line)) e x) t

@@ -8,7 +8,8 @@ use Rattle.std.proofs.lemmas.List.{length-map}
 use Rattle.bcv_model.specs.declared.event.Event.{Event}
 use Rattle.bcv_model.specs.declared.reply.Said.{Said}
 use Rattle.bcv_model.specs.ReplyText.{said_text}
-use Rattle.bcv_model.specs.Script.{world_of, event_of}
+use Rattle.bcv_model.specs.Script.{world_of, world_at}
+use Rattle.bcv_top.specs.Taken.{taken_event}
 use Rattle.bcv_world.specs.declared.world.World.{World}
 use Rattle.bcv_top.specs.declared.status.Status.{Status}
 use Rattle.bcv_top.specs.declared.status.Status.TheVariants as status
@@ -66,7 +67,7 @@ led_leads (Some w) lines replies l = subst (λ (x : List (List ℕ)). Leads x (S
 led_ready : (w : Option World) (lines : List (List ℕ)) (replies : List Said) → Led w lines replies → length lines < 2 ^ 62 → IsReady w
 led_ready None lines replies l h = tt
 led_ready (Some w) lines replies l h =
-    (l.3.good, l.3.fixes.built, omega (arith, ap length l.2, ap length l.3.runs.events, length-map l.1 (event_of w.spec), length-map l.3.h.events (λ (e : Event). Some e), l.3.runs.mirrors.applied))
+    (l.3.good, l.3.fixes.built, omega (arith, ap length l.2, ap length l.3.runs.events, length-map l.1 (taken_event w.spec), length-map l.3.h.events (λ (e : Event). Some e), l.3.runs.mirrors.applied))
 
 -- ---- the end by a line
 
@@ -127,7 +128,7 @@ done taken written all replies ended (Some w) e a l t none =
 
 -- an input that ended after whole lines
 no_world : IsNoWorld (world_of [])
-unfolding world_of
+unfolding world_of world_at
 no_world = tt
 
 ended_at : (w : Option World) (taken written rest : List ℕ) (lines : List (List ℕ)) (replies : List Said) (ended : Type 0) → ended → Splits taken lines rest → rest ≡ [] → Led w lines replies → written ≡ replies_text replies

@@ -4,7 +4,7 @@ use Rattle.bcv_model.specs.declared.reply.Said.{Said}
 use Rattle.bcv_model.specs.Machine.{History}
 use Rattle.bcv_model.specs.MachineState.{State}
 use Rattle.bcv_model.specs.ReplyText.{said_text}
-use Rattle.bcv_model.specs.Script.{world_of, event_of}
+use Rattle.bcv_model.specs.Script.{world_of}
 use Rattle.bcv_script.specs.declared.fault.LineFault.{LineFault}
 use Rattle.bcv_script.specs.declared.fault.LineFault.TheVariants as fault
 use Rattle.bcv_world.specs.declared.world.World.{World}
@@ -14,6 +14,7 @@ use Rattle.bcv_top.specs.declared.output.Wrote.{Wrote}
 use Rattle.bcv_top.specs.declared.output.Wrote.TheVariants as wrote
 use Rattle.bcv_top.specs.declared.status.Status.{Status}
 use Rattle.bcv_top.specs.declared.status.Status.TheVariants as status
+use Rattle.bcv_top.specs.Taken.{taken_event}
 use Rattle.bcv_top.specs.Replay.{Fixes, Runs, IsBad, IsNoWorld, replies_text}
 
 -- the first line fixed this world, and the lines after it, as events, led it to these replies
@@ -50,7 +51,7 @@ Tells old new line text = (said : Option Said) × (text ≡ replies_text (listed
 -- what a line comes to: text, a bad line exactly where it is one, or want of memory
 abbrev pub Steps : Option World → Option World → List ℕ → List ℕ → Result (Unit {0}) LineFault → Type 0
 Steps old new line text (Ok _) = Tells old new line text
-Steps old new line text (Err fault.BadLine) = (new ≡ old) × IsBad old line
+Steps old new line text (Err (fault.BadLine at)) = (new ≡ old) × IsBad old line
 Steps old new line text (Err fault.NoMemory) = Unit {0}
 
 -- some front of the text of a line's reply was written, or nothing at all
@@ -72,7 +73,7 @@ Says (Err s) number old new line written = Ends s number old new line written
 -- the world that a first line fixes, in its first state, or a bad line where it fixes none
 abbrev pub First : Result World LineFault → List ℕ → Type 0
 First (Ok w) line = LedBy line w [] []
-First (Err fault.BadLine) line = IsNoWorld (world_of line)
+First (Err (fault.BadLine at)) line = IsNoWorld (world_of line)
 First (Err fault.NoMemory) line = Unit {0}
 
 -- what a further line comes to in a world
@@ -81,7 +82,7 @@ Answers (Ok _) old new line text =
     (said : Said)
     × (text ≡ said_text said)
     × ((first : List ℕ) (lines : List (List ℕ)) (replies : List Said) → LedBy first old lines replies → LedBy first new (lines ++ line ∷ []) (replies ++ said ∷ []))
-Answers (Err fault.BadLine) old new line text = (new ≡ old) × (event_of old.spec line ≡ None)
+Answers (Err (fault.BadLine at)) old new line text = (new ≡ old) × (taken_event old.spec line ≡ None)
 Answers (Err fault.NoMemory) old new line text = Unit {0}
 
 -- how an input that has ended after whole lines ends the replay
@@ -96,7 +97,7 @@ SaysLast s number old new line written = Ends s number old new line written
 
 -- how a line of a number that gave nothing ends the replay
 abbrev pub stopped_by : ℕ → LineFault → Status
-stopped_by number fault.BadLine = status.BadScript number 0
+stopped_by number (fault.BadLine at) = status.BadScript number 0
 stopped_by number fault.NoMemory = status.NoMemory
 
 -- what the writing of a reply comes to

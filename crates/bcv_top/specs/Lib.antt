@@ -5,4 +5,5 @@ pub mod Led
 pub mod Lines
 pub mod Reading
 pub mod Replay
+pub mod Taken
 pub mod Writing

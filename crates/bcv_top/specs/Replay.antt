@@ -1,26 +1,27 @@
 -- What a replay makes of the lines of a script.
-use Rattle.std.specs.Prelude.{◌≡◌, ℕ, true, false, List, [], ◌∷◌, map, Option, Some, None}
+use Rattle.std.specs.Prelude.{◌≡◌, ℕ, true, false, List, [], ◌∷◌, map, Option, Some, None, Result, Ok, Err}
 use Rattle.std.specs.List.{flat_map}
 use Rattle.bcv_base.specs.Versions.{HasVersions}
 use Rattle.bcv_memstore.specs.Told.{log_of}
 use Rattle.bcv_model.specs.declared.reply.Said.{Said}
 use Rattle.bcv_model.specs.declared.spec.WorldSpec.{WorldSpec}
-use Rattle.bcv_model.specs.Script.{world_of, event_of}
+use Rattle.bcv_model.specs.Script.{world_of}
 use Rattle.bcv_model.specs.ReplyText.{said_text}
 use Rattle.bcv_model.specs.MachineState.{State}
 use Rattle.bcv_model.specs.Machine.{History, Accepts}
 use Rattle.bcv_world.specs.declared.world.World.{World}
 use Rattle.bcv_world.specs.Given.{is_world}
 use Rattle.bcv_world.specs.Stands.{IsGood, Mirrors}
+use Rattle.bcv_top.specs.Taken.{taken_event}
 
 -- the lines of text that replies are written as
 abbrev pub replies_text : List Said → List ℕ
 replies_text replies = flat_map said_text replies
 
--- lines are these events; the machine accepts these replies to them, the world stands for the state that it reaches, and the
+-- lines are these events, which the world takes; the machine accepts these replies to them, the world stands for the state that it reaches, and the
 -- machine's versions are exactly those of the store's log
 pub record Runs (w : World) (h : History) (a : State) (lines : List (List ℕ)) (replies : List Said) : Type 0 where
-  pub events : map (event_of w.spec) lines ≡ map Some h.events
+  pub events : map (taken_event w.spec) lines ≡ map Some h.events
   pub saids : h.saids ≡ replies
   pub accepts : Accepts w.spec h a
   pub mirrors : Mirrors w h a
@@ -28,7 +29,7 @@ pub record Runs (w : World) (h : History) (a : State) (lines : List (List ℕ)) 
 
 -- a line fixes a world of the kind that is built
 pub record Fixes (line : List ℕ) (spec : WorldSpec) : Type 0 where
-  pub read : world_of line ≡ Some spec
+  pub read : world_of line ≡ Ok spec
   pub built : is_world spec ≡ true
 
 -- a script's lines lead to a world, which is good, so that its log is sound, with these replies; no line leads to no world,
@@ -39,14 +40,14 @@ Leads (first ∷ lines) (Some w) replies = IsGood w × ((h : History) × (a : St
 Leads _ _ replies = ⊥
 
 -- no world is read, or one of a kind that is not built
-abbrev pub IsNoWorld : Option WorldSpec → Type 0
-IsNoWorld None = Unit {0}
-IsNoWorld (Some spec) = is_world spec ≡ false
+abbrev pub IsNoWorld : Result WorldSpec ℕ → Type 0
+IsNoWorld (Err at) = Unit {0}
+IsNoWorld (Ok spec) = is_world spec ≡ false
 
--- the line is bad: it is the first and fixes no world, or it isn't in the grammar of the world's lines
+-- the line is bad: it is the first and fixes no world, or the grammar refuses it, or its event is none that the world takes
 abbrev pub IsBad : Option World → List ℕ → Type 0
 IsBad None line = IsNoWorld (world_of line)
-IsBad (Some w) line = event_of w.spec line ≡ None
+IsBad (Some w) line = taken_event w.spec line ≡ None
 
 -- a script's lines lead to a world, with these replies, and the line after them is bad
 abbrev pub StopsAt : List (List ℕ) → Option World → List Said → List ℕ → Type 0

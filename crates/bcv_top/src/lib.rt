@@ -18,6 +18,7 @@ mod lines;
 mod output;
 mod replay;
 mod status;
+mod taken;
 
 use bcv_base::{Sink, Source};
 pub use first_read::first_read_is_a_run;

@@ -9,6 +9,7 @@ ghost use Rattle.bcv_world.specs.Stands.{IsGood};
 use crate::lines::{Lines, Next};
 use crate::output::{Wrote, write_all};
 use crate::status::Status;
+use crate::taken::is_taken;
 use bcv_base::{Sink, Source};
 use bcv_script::{LineFault, read_line, read_world, write_reply};
 use bcv_world::World;
@@ -134,7 +135,7 @@ fn stopped(number: u64, fault: LineFault) -> Status
     ensures { result ≡ stopped_by number fault }
 {
     match fault {
-        LineFault::BadLine => Status::BadScript {
+        LineFault::BadLine { .. } => Status::BadScript {
             line: number,
             at: 0,
         },
@@ -182,7 +183,7 @@ fn first_world(alloc: Global, line: &[u8]) -> Result<World, LineFault>
 {
     let spec = read_world(line)?;
     if spec.clients != 1 {
-        return Err(LineFault::BadLine);
+        return Err(LineFault::BadLine { at: 0 });
     }
     Ok(World::new(alloc, &spec))
 }
@@ -202,6 +203,9 @@ fn answer(
     ensures { Answers result world.old world.new line.now text.new.items }
 {
     let event = read_line(alloc, world.spec(), line)?;
+    if !is_taken(&event) {
+        return Err(LineFault::BadLine { at: 0 });
+    }
     let said = world.apply(alloc, event)?;
     write_reply(&said, text)?;
     Ok(())

@@ -212,6 +212,27 @@ fn scripts(rt: HostRuntime) -> Result<(), Fail> {
             Status::BadScript { line: 3, at: 0 },
             "task 1 working 1\n",
         ),
+        // A line that isn't in the grammar, and lines that are, of events that the world doesn't take.
+        (
+            "world 1 1024 512 100 2\n1 create\n1 step 1\n1 commit a 1 0=aa\n",
+            Status::BadScript { line: 4, at: 0 },
+            "task 1 working 1\n+1 done 1\n",
+        ),
+        (
+            "world 1 1024 512 100 2\n1 create\n1 step 1\n1 commit a 1 1=aa\n",
+            Status::BadScript { line: 4, at: 0 },
+            "task 1 working 1\n+1 done 1\n",
+        ),
+        (
+            "world 1 1024 512 100 2\ntick 1\n",
+            Status::BadScript { line: 2, at: 0 },
+            "",
+        ),
+        (
+            "world 1 1024 512 100 2\n1 create\n1 step 1 lost\n",
+            Status::BadScript { line: 3, at: 0 },
+            "task 1 working 1\n",
+        ),
         (
             "world 1 1024 512 100 2\n1 create\n\n",
             Status::BadScript { line: 3, at: 0 },

@@ -16,7 +16,7 @@ returns-in_err-spec c =
 pub returns-then-spec-ne1 : goal.returns-then-spec-ne1
 returns-then-spec-ne1 c =
     let other : (c.in_ok-spec.spec.clients == 1) ≡ false = grind (arith, common_steps) in
-    first_refused c.args.line.now c.in_ok-spec.spec c.in_ok-spec.ensures.reads other
+    first_refused c.args.line.now c.in_ok-spec.spec 0 c.in_ok-spec.ensures.reads other
 
 pub new-requires-clause-sizes : goal.new-requires-clause-sizes
 new-requires-clause-sizes c = world_spec c.args.line.now c.in_ok-spec.spec c.in_ok-spec.ensures.reads

@@ -1,0 +1,26 @@
+/// What a line of a script says of a client by its second word. The words are written in the grammar of the lines.
+#[derive(Clone, Copy, Debug, PartialEq, Eq)]
+pub enum Verb {
+    Up,
+    Crash,
+    Fuse,
+    Fail,
+    Begin,
+    Read,
+    Hold,
+    Look,
+    Free,
+    End,
+    Commit,
+    Revert,
+    List,
+    Create,
+    New,
+    Upload,
+    Copy,
+    Drop,
+    Poll,
+    Cleanup,
+    Resolve,
+    Step,
+}
