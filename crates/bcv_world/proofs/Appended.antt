@@ -1,5 +1,5 @@
 -- What fits still does where a publishing task has ended: behind a manifest that was published, or with its publication pending.
-use Rattle.std.proofs.Common.{◌≡◌, inl, inr, ℕ, zero, suc, ◌+◌, ◌≤◌, Bool, true, false, ◌||◌, List, [], ◌∷◌, ◌++◌, append-nil, length, map, Option, Some, None, IfSome, is_some, Result, slice_get, get_or, remove, Vec, unwrap_or, length-append, refl, sym, ap, ◌∙◌, subst, arith}
+use Rattle.std.proofs.Common.{◌≡◌, ℕ, zero, suc, ◌+◌, ◌≤◌, Bool, true, false, ◌||◌, List, [], ◌∷◌, ◌++◌, append-nil, length, map, Option, Some, None, IfSome, is_some, Result, slice_get, get_or, remove, Vec, unwrap_or, length-append, refl, sym, ap, ◌∙◌, subst, arith}
 use Rattle.std.specs.declared.alloc.Global.{Global}
 use Rattle.std.specs.Option.{option_to_list}
 use Rattle.std.specs.List.{AllByRecursion}
@@ -9,8 +9,6 @@ use Rattle.bcv_base.specs.declared.log.Entry.TheVariants as entry
 use Rattle.bcv_base.specs.declared.manifest.DbEntry.{DbEntry}
 use Rattle.bcv_base.specs.declared.manifest.Manifest.{Manifest}
 use Rattle.bcv_base.specs.declared.object.ObjName.TheVariants as object
-use Rattle.bcv_base.specs.declared.outcome.Outcome.{Outcome}
-use Rattle.bcv_base.specs.declared.outcome.Outcome.TheVariants as outcome
 use Rattle.bcv_base.specs.declared.seen.Latest.{Latest}
 use Rattle.bcv_base.specs.History.{Item, Published, as_read, history_of, last_of, first_put}
 use Rattle.bcv_base.specs.HistoryLaws.{id_eq-is, history_of-more}

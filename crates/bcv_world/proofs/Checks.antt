@@ -1,5 +1,5 @@
 -- Why an edit can't be published over the last manifest, and why the machine's can't over the last version: the same reasons.
-use Rattle.std.proofs.Common.{◌≡◌, ◌∙◌, ℕ, ◌+◌, ◌-◌, ◌^◌, ◌<◌, ◌==◌, ◌⊎◌, inl, inr, Bool, true, false, true≢false, ◌&&◌, cond, List, [], ◌∷◌, length, map, Option, Some, None, is_some, is_none, IfSome, nat_lt, nat_le, if◌then◌else◌, refl, sym, ap, subst}
+use Rattle.std.proofs.Common.{◌≡◌, ◌∙◌, ℕ, ◌-◌, ◌^◌, ◌<◌, ◌==◌, ◌⊎◌, inl, inr, Bool, true, false, true≢false, ◌&&◌, cond, List, length, map, Option, Some, None, is_some, is_none, IfSome, nat_lt, nat_le, if◌then◌else◌, refl, sym, ap, subst}
 use Rattle.std.proofs.lemmas.List.{length-map}
 use Rattle.std.proofs.lemmas.Option.{same_Some}
 use Rattle.std.specs.Option.{option_map}
@@ -12,7 +12,7 @@ use Rattle.bcv_base.specs.Joined.{database_of}
 use Rattle.bcv_base.specs.Keyed.{keyed}
 use Rattle.bcv_base.specs.BlockCounts.{all_blocks}
 use Rattle.bcv_base.specs.ManifestRules.{db_name, writer_id, blocks_needed}
-use Rattle.bcv_base.specs.Version.{Database, Version, the_name}
+use Rattle.bcv_base.specs.Version.{Version, the_name}
 use Rattle.bcv_base.specs.Versions.{version_of, versions_of}
 use Rattle.bcv_dbcopy.specs.State.{IsEdit}
 use Rattle.bcv_dbmap.specs.declared.fault.EditFault.{EditFault}

@@ -1,5 +1,5 @@
 -- What a step's own put adds to a log and a draw to the names, and that both are as a sound log wants them.
-use Rattle.std.proofs.Common.{◌≡◌, ◌∙◌, ℕ, ◌+◌, ◌<◌, ◌≤◌, ◌^◌, Bool, true, false, true≢false, ◌||◌, ◌⊎◌, inl, inr, cond, List, [], ◌∷◌, ◌++◌, length, length-append, append-nil, map, Option, Some, None, unwrap_or, slice_get, Vec, refl, sym, ap, subst, arith}
+use Rattle.std.proofs.Common.{◌≡◌, ◌∙◌, ℕ, ◌+◌, ◌<◌, ◌≤◌, ◌^◌, Bool, true, false, ◌||◌, cond, List, [], ◌∷◌, ◌++◌, length, length-append, append-nil, map, Option, Some, None, unwrap_or, slice_get, Vec, refl, sym, ap, arith}
 use Rattle.std.proofs.lemmas.List.{append_cancel_left}
 use Rattle.std.proofs.lemmas.List.FromFn.{length-map-range_with_len}
 use Rattle.bcv_base.specs.declared.id.Id16.{Id16}
@@ -10,7 +10,7 @@ use Rattle.bcv_base.specs.History.{Item, BlockPut, Published, Unreadable, BlockD
 use Rattle.bcv_base.specs.HistoryLaws.{first_put-stays}
 use Rattle.bcv_base.specs.Ids.{id_eq}
 use Rattle.bcv_base.specs.Image.{or_else}
-use Rattle.bcv_base.specs.Log.{is_own, object_after, object_of}
+use Rattle.bcv_base.specs.Log.{object_after, object_of}
 use Rattle.bcv_base.specs.ManifestGrammar.{manifest_of}
 use Rattle.bcv_base.specs.ManifestRules.{lists}
 use Rattle.bcv_base.specs.Numbered.{numbered, numbered_names}
