@@ -1,1 +1,5 @@
-
+mod Bytes
+mod Append
+mod Added
+mod Head
+mod Reader

@@ -1,8 +1,8 @@
 // The bytes of a journal's file.
-ghost use Rattle.std.specs.Prelude.{◌≡◌, ◌↔◌, ◌<◌, ◌≤◌, ◌+◌, ◌^◌, ◌++◌, [], ◌∷◌, List, ℕ, length, IfOk, IfErr, IsTrue, MatchOption, Result, take};
+ghost use Rattle.std.specs.Prelude.{◌≡◌, ◌↔◌, ◌<◌, ◌≤◌, ◌+◌, ◌^◌, ◌++◌, [], ◌∷◌, List, ℕ, length, IfOk, IfErr, IsTrue, OnOk, MatchOption, Result, take};
 ghost use Rattle.std.specs.Int.{w32, to_be_bytes};
 ghost use Rattle.std.specs.List.{AllByRecursion};
-ghost use Rattle.bcv_journal.specs.Layout.{HasItem, IsItem, Loads, area_of, field_of, magic, start_in};
+ghost use Rattle.bcv_journal.specs.Layout.{HasItem, IsItem, Loads, area_of, field_of, magic, open_item, start_in};
 ghost use Rattle.bcv_journal.specs.Settled.{items_of};
 ghost use Rattle.bcv_journal.specs.Reading.{IsRead, IsReadFault};
 
@@ -106,16 +106,25 @@ pub fn behind_gate(alloc: Global, item: &[u8]) -> Result<Vec<u8>, AllocError>
 
 /// An area of items: each with its open gate, and a closed gate after them.
 pub fn whole_area(alloc: Global, items: &[Vec<u8>]) -> Result<Vec<u8>, AllocError>
-    requires each { AllByRecursion IsItem (items_of items.now) }
-    requires short { length (area_of (items_of items.now)) < 2 ^ 31 }
+    requires { AllByRecursion IsItem (items_of items.now) }
     ensures { IfOk result (λ v. v.items ≡ area_of (items_of items.now) ++ 0 ∷ []) }
 {
     let mut bytes = Vec::new(alloc);
-    for item in items {
-        bytes.push(1)?;
-        bytes.extend_from_slice(&(item.len() as u32).to_be_bytes())?;
-        bytes.extend_from_slice(item)?;
+    let mut rest = items;
+    while let [item, after @ ..] = rest {
+        push_item(&mut bytes, item)?;
+        rest = after;
     }
     bytes.push(0)?;
     Ok(bytes)
+}
+
+/// Adds an item with its open gate.
+fn push_item(bytes: &mut Vec<u8>, item: &[u8]) -> Result<(), AllocError>
+    requires { length item.now < 2 ^ 32 }
+    ensures { OnOk result (bytes.new.items ≡ bytes.old.items ++ open_item item.now) }
+{
+    bytes.push(1)?;
+    bytes.extend_from_slice(&(item.len() as u32).to_be_bytes())?;
+    bytes.extend_from_slice(item)
 }
