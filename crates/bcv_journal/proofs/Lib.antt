@@ -3,3 +3,6 @@ mod Append
 mod Added
 mod Head
 mod Reader
+mod Unique
+mod Loading
+mod Empty

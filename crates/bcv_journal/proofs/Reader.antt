@@ -1,12 +1,12 @@
 -- What the reader of a file keeps true.
-use Rattle.std.proofs.Common.{inl, inr, lit<, Bool, ◌≡◌, ◌≤◌, ◌≢◌, ℕ, ◌+◌, ◌-◌, ◌^◌, ◌<◌, List, [], ◌∷◌, ◌++◌, length, get_or, take, drop, sym, ◌∙◌, ap, arith, append_assoc, length-append, take-append-drop}
+use Rattle.std.proofs.Common.{inl, inr, lit<, Bool, ◌≡◌, ◌≤◌, ◌≢◌, ℕ, ◌+◌, ◌-◌, ◌^◌, ◌<◌, List, [], ◌∷◌, ◌++◌, length, get_or, take, drop, sym, ◌∙◌, ap, subst, arith, append_assoc, length-append, take-append-drop}
 use Rattle.std.proofs.lemmas.List.{append-nil, length-take, length-take-le, length-drop, get_or-take, get_or_past, take-take}
 use Rattle.std.proofs.lemmas.Bool.{cases_lt}
 use Rattle.std.proofs.lemmas.Nat.{be_bytes_4}
 use Rattle.std.specs.Int.{w32, to_be_bytes, from_be_bytes}
 use Rattle.std.specs.List.{AllByRecursion}
 use Rattle.bcv_journal.specs.Layout.{BreaksAt, HasItem, IsFront, IsItem, area_of, field_of, is_second, magic, start_in, tail_of, written}
-use Rattle.bcv_journal.specs.Reading.{IsRead}
+use Rattle.bcv_journal.specs.Reading.{IsRead, IsShut}
 use Rattle.bcv_journal.specs.declared.area.Area.{Area}
 use Rattle.bcv_journal.proofs.Head.{second-front, start-front}
 use Rattle.bcv_journal.proofs.Bytes.{each-push, written-push}
@@ -63,9 +63,10 @@ read-more bytes front items after item next so_far has = record {
 pub read-place : (bytes front : List ℕ) (items : List (List ℕ)) (rest : List ℕ) → IsReading bytes front items rest → length bytes - length rest ≡ tail_of (length front) items
 read-place bytes front items rest so_far = omega (arith, ap length so_far.whole, length-append (written front items) rest, length-append front (area_of items))
 
-pub read-end : (bytes : List ℕ) (area : Area) (items : List (List ℕ)) (gate : ℕ) (rest : List ℕ) → take 8 bytes ≡ magic → area.start ≡ start_in bytes (is_second bytes) → 17 ≤ area.start → area.start < length bytes → area.second ≡ is_second bytes
-    → area.tail ≡ length bytes - length (gate ∷ rest) → IsReading bytes (take area.start bytes) items (gate ∷ rest) → gate ≢ 1 → IsRead bytes area items
-read-end bytes area items gate rest is starts long within second tail so_far closed =
+pub read-end : (bytes : List ℕ) (area : Area) (items : List (List ℕ)) (rest : List ℕ) → take 8 bytes ≡ magic → area.start ≡ start_in bytes (is_second bytes) → 17 ≤ area.start → area.start < length bytes → area.second ≡ is_second bytes
+    → area.tail ≡ length bytes - length rest → IsReading bytes (take area.start bytes) items rest → IsShut rest → IsRead bytes area items
+read-end bytes area items [] is starts long within second tail so_far shut = absurd (omega (arith, so_far.some))
+read-end bytes area items (gate ∷ rest) is starts long within second tail so_far shut =
     let size : length (take area.start bytes) ≡ area.start = length-take-le area.start bytes (omega (arith, within)) in
     record {
       spelled = record {
@@ -73,7 +74,7 @@ read-end bytes area items gate rest is starts long within second tail so_far clo
         gate = gate;
         rest = rest;
         is_front = front-is bytes area.start is starts long within;
-        closed = closed;
+        closed = λ one. shut rest (ap (λ (g : ℕ). g ∷ rest) one);
         each = so_far.each;
         whole = so_far.whole;
       };
@@ -94,3 +95,9 @@ read-breaks bytes start items after is starts long within so_far broken = record
   is_place = read-place bytes (take start bytes) items (1 ∷ after) so_far;
   broken = broken;
 }
+
+pub read-no : (bytes : List ℕ) (start : ℕ) (items : List (List ℕ)) (rest after : List ℕ) → rest ≡ 1 ∷ after → take 8 bytes ≡ magic → start ≡ start_in bytes (is_second bytes) → 17 ≤ start → start < length bytes
+    → IsReading bytes (take start bytes) items rest → ((item next : List ℕ) → HasItem after item next → ⊥) → BreaksAt bytes (length bytes - length rest)
+read-no bytes start items rest after open_is is starts long within so_far broken =
+    subst (λ (l : List ℕ). BreaksAt bytes (length bytes - length l)) (sym open_is)
+    (read-breaks bytes start items after is starts long within (subst (λ (l : List ℕ). IsReading bytes (take start bytes) items l) open_is so_far) broken)

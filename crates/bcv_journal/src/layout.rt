@@ -4,7 +4,7 @@ ghost use Rattle.std.specs.Int.{w32, to_be_bytes};
 ghost use Rattle.std.specs.List.{AllByRecursion};
 ghost use Rattle.bcv_journal.specs.Layout.{HasItem, IsItem, Loads, area_of, field_of, magic, open_item, start_in};
 ghost use Rattle.bcv_journal.specs.Settled.{items_of};
-ghost use Rattle.bcv_journal.specs.Reading.{IsRead, IsReadFault};
+ghost use Rattle.bcv_journal.specs.Reading.{IsRead, IsReadFault, IsShut};
 
 use crate::JournalFault;
 use crate::area::Area;
@@ -48,6 +48,16 @@ fn chosen_start(bytes: &[u8], second: bool) -> usize
     u32::from_be_bytes(field) as usize
 }
 
+/// What stands after the gate at the front, where it is open.
+fn after_gate(rest: &[u8]) -> Option<&[u8]>
+    ensures { MatchOption result (IsShut rest.now) (λ after. rest.now ≡ 1 ∷ after.now) }
+{
+    match rest {
+        [1, after @ ..] => Some(after),
+        _ => None,
+    }
+}
+
 /// What stands after an open gate: a whole item, and after it at least a gate.
 fn front_item(after: &[u8]) -> Option<(&[u8], &[u8])>
     ensures { MatchOption result ((item next : List ℕ) → HasItem after.now item next → ⊥) (λ r. HasItem after.now r.0.now r.1.now) }
@@ -77,7 +87,7 @@ pub fn read_items(alloc: Global, bytes: &[u8]) -> Result<(Vec<Vec<u8>>, Area), J
     }
     let mut items = Vec::new(alloc);
     let mut rest = &bytes[start..];
-    while let [1, after @ ..] = rest {
+    while let Some(after) = after_gate(rest) {
         let Some((item, next)) = front_item(after) else {
             return Err(JournalFault::NotJournal((bytes.len() - rest.len()) as u64));
         };
