@@ -6,3 +6,4 @@ mod Reader
 mod Unique
 mod Loading
 mod Empty
+mod LoadParts
