@@ -7,3 +7,4 @@ mod Unique
 mod Loading
 mod Empty
 mod LoadParts
+mod Appended

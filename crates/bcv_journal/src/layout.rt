@@ -12,9 +12,6 @@ use std::alloc::{AllocError, Global};
 
 pub const MAGIC: [u8; 8] = *b"BCVJRN02";
 
-/// The place of the selector.
-pub const SELECTOR: u64 = 8;
-
 /// An empty journal: the magic, selector 0, the starts 17 and 0, a closed gate.
 pub const EMPTY: [u8; 18] = *b"BCVJRN02\0\0\0\0\x11\0\0\0\0\0";
 
@@ -112,29 +109,4 @@ pub fn behind_gate(alloc: Global, item: &[u8]) -> Result<Vec<u8>, AllocError>
     bytes.extend_from_slice(item)?;
     bytes.push(0)?;
     Ok(bytes)
-}
-
-/// An area of items: each with its open gate, and a closed gate after them.
-pub fn whole_area(alloc: Global, items: &[Vec<u8>]) -> Result<Vec<u8>, AllocError>
-    requires { AllByRecursion IsItem (items_of items.now) }
-    ensures { IfOk result (λ v. v.items ≡ area_of (items_of items.now) ++ 0 ∷ []) }
-{
-    let mut bytes = Vec::new(alloc);
-    let mut rest = items;
-    while let [item, after @ ..] = rest {
-        push_item(&mut bytes, item)?;
-        rest = after;
-    }
-    bytes.push(0)?;
-    Ok(bytes)
-}
-
-/// Adds an item with its open gate.
-fn push_item(bytes: &mut Vec<u8>, item: &[u8]) -> Result<(), AllocError>
-    requires { length item.now < 2 ^ 32 }
-    ensures { OnOk result (bytes.new.items ≡ bytes.old.items ++ open_item item.now) }
-{
-    bytes.push(1)?;
-    bytes.extend_from_slice(&(item.len() as u32).to_be_bytes())?;
-    bytes.extend_from_slice(item)
 }
