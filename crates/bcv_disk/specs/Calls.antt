@@ -1,8 +1,10 @@
 -- How calls of a disk follow one another.
-use Rattle.std.proofs.Common.{◌≡◌, ◌⊎◌, inl, inr, ⊎_elim, ℕ, ◌+◌, Bool, true, false, Option, None, Some, List, refl, arith}
+use Rattle.std.proofs.Common.{◌≡◌, ◌⊎◌, inl, inr, ⊎_elim, ℕ, ◌+◌, ◌≤◌, Bool, true, false, Option, None, Some, List, refl, arith}
 use Rattle.std.proofs.lemmas.Bool.{cases_Bool}
+use Rattle.bcv_base.specs.Faults.{Rose}
 use Rattle.bcv_disk.specs.Crash.{IsSame, LeavesOnly, Passes}
-use Rattle.bcv_disk.specs.DiskShown.{DiskShown, Trouble}
+use Rattle.bcv_disk.specs.DiskCalls.{DiskFails}
+use Rattle.bcv_disk.specs.DiskShown.{DiskShown, DiskTold, Trouble}
 use Rattle.bcv_disk.specs.Troubles.{CountsCall, FuseLeft, IsSpent, Suffers, counted}
 
 -- a call and then one that makes no other images than those that were possible
@@ -102,3 +104,24 @@ Suffers-none a fails = record {
 -- a call that is no failure counts once
 pub CountsCall-done : (a b : Trouble) {failed : Type 0} → (failed → ⊥) → CountsCall a b failed → b.calls ≡ counted a.calls 1
 CountsCall-done a b fails counts = ⊎_elim (λ burnt. absurd (fails (counts.down burnt))) (λ whole. counts.once whole) (cases_Bool a.burnt)
+
+-- a failure that was counted after other calls was counted since their start
+Rose-since : (a b c : ℕ) → a ≤ b → Rose b c → Rose a c
+Rose-since a b c le rose = omega (arith, le, rose)
+
+-- calls that were no failure and then others, of which the last may have failed
+pub DiskFails-then : (told : DiskTold) (a b c : DiskShown) {once failed : Type 0} → (once → failed) → DiskFails told a b once → DiskFails told b c failed → DiskFails told a c failed
+DiskFails-then told a b c as_failed p q = record {
+  later = omega (arith, p.later, q.later);
+  rose = λ fails. Rose-since a.faults b.faults c.faults p.later (q.rose fails);
+  troubles = λ t. Suffers-then a.trouble b.trouble c.trouble as_failed (p.troubles t) (q.troubles t);
+}
+
+-- no call
+pub DiskFails-none : (told : DiskTold) (a : DiskShown) {failed : Type 0} → (failed → ⊥) → DiskFails told a a failed
+DiskFails-none told a fails = record { later = omega arith; rose = λ failed. absurd (fails failed); troubles = λ t. Suffers-none a.trouble fails }
+
+-- the same, by another word for the failing
+pub DiskFails-as : (told : DiskTold) (a b : DiskShown) {failed other : Type 0} → (other → failed) → (failed → other) → DiskFails told a b failed → DiskFails told a b other
+DiskFails-as told a b as_failed as_other p =
+    record { later = p.later; rose = λ fails. p.rose (as_failed fails); troubles = λ t. Suffers-as a.trouble b.trouble as_failed as_other (p.troubles t) }

@@ -1,1 +1,10 @@
-
+mod Bytes
+mod Append
+mod Added
+mod Head
+mod Reader
+mod Unique
+mod Loading
+mod Empty
+mod LoadParts
+mod Appended

@@ -1,4 +1,4 @@
--- What an append and a restart promise, from the journal before the call and after it.
+-- What the calls of a journal promise, from the journal before the call and after it.
 use Rattle.std.specs.Prelude.{◌≡◌, ◌≢◌, ◌⊎◌, ◌↔◌, ℕ, ◌+◌, ◌-◌, ◌*◌, ◌^◌, ◌<◌, ◌≤◌, Bool, true, false, List, [], ◌∷◌, ◌++◌, length, nat_le, if◌then◌else◌}
 use Rattle.std.specs.List.{AllByRecursion}
 use Rattle.bcv_disk.specs.Crash.{LeavesOnly, put}
@@ -35,42 +35,6 @@ pub record JournalAppends {D : Type 0} {g : _} (told : DiskTold) (shown : D → 
   -- the item stands at the tail, with an open gate before it and a closed one after it
   pub bytes_are : told.tells → result ≡ Done → (shown (disk_of new)).seen ≡ put (shown (disk_of old)).seen (tail_at old) (open_item bytes ++ 0 ∷ [])
   pub items : told.tells → (items : List (List ℕ)) → HasItems shown old items → AppendTells shown old new bytes result items
-
--- the length of the area that these items take, without the closed gate after them
-abbrev pub size_of : List (List ℕ) → ℕ
-size_of items = length (area_of items)
-
--- where a restart puts an area of this size: in front of the old one where there is room, else after it
-abbrev pub new_start : ℕ → ℕ → ℕ → ℕ
-new_start size start tail = if nat_le (18 + size) start then 17 else tail + 1
-
--- a restart with these items is allowed: it frees half of the area, and has room
-pub record MayRestart (start tail : ℕ) (items : List (List ℕ)) : Type 0 where
-  pub some : 0 < length items
-  pub each : AllByRecursion IsItem items
-  pub frees : 2 * (size_of items + 1) ≤ tail - start
-  pub room : (18 + size_of items ≤ start) ⊎ (tail + 1 + size_of items + 65 ≤ 2 ^ 31)
-
--- what a restart does to the items of a journal that has them
-pub record RestartTells {D : Type 0} {g : _} (shown : D → DiskShown) (old new : Journal D g) (given : List (List ℕ)) (result : Noted) (items : List (List ℕ)) : Type 0 where
-  -- a crash at any moment of the call leaves the items before it, or the given ones
-  pub any_moment : LeavesOnly (shown (disk_of old)) (shown (disk_of new)) (IsEither items given)
-  pub done : result ≡ Done → HasItems shown new given
-  pub kept : result ≡ NoMemory → HasItems shown new items
-
--- a restart with these items
-pub record JournalRestarts {D : Type 0} {g : _} (told : DiskTold) (shown : D → DiskShown) (old new : Journal D g) (given : List (List ℕ)) (result : Noted) : Type 0 where
-  pub closed : (result ≡ Closed) ↔ (is_closed old ≡ true)
-  pub fits : result ≢ JournalFull
-  pub fails : DiskFails told (shown (disk_of old)) (shown (disk_of new)) (result ≡ DiskFault)
-  pub shuts : (is_closed new ≡ true) ↔ ((is_closed old ≡ true) ⊎ (result ≡ DiskFault))
-  pub start : result ≡ Done → start_at new ≡ new_start (size_of given) (start_at old) (tail_at old)
-  pub tail : result ≡ Done → tail_at new ≡ start_at new + size_of given
-  pub start_stays : result ≢ Done → start_at new ≡ start_at old
-  pub tail_stays : result ≢ Done → tail_at new ≡ tail_at old
-  pub refused : result ≡ Closed → disk_of new ≡ disk_of old
-  pub calls : told.troubled → result ≡ Done → (shown (disk_of new)).trouble.calls ≡ counted (shown (disk_of old)).trouble.calls 5
-  pub items : told.tells → (items : List (List ℕ)) → HasItems shown old items → RestartTells shown old new given result items
 
 -- the troubles of the disk are planned to be these, and nothing else changes
 pub record JournalPlans {D : Type 0} {g : _} (shown : D → DiskShown) (old new : Journal D g) (planned : Trouble) : Type 0 where

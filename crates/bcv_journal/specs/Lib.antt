@@ -7,5 +7,4 @@ pub mod JournalCalls
 pub mod KeptWrite
 pub mod Reading
 pub mod AddedItem
-pub mod Moved
 pub mod LoadedItems

@@ -1,18 +1,21 @@
 -- What the parts of a load promise.
-use Rattle.std.specs.Prelude.{◌≡◌, ℕ, ◌^◌, ◌<◌, ◌≤◌, List, [], length, Result, Ok, Err, IsErrOf, IfOk, IfErr, nat_le, if◌then◌else◌, Vec}
+use Rattle.std.specs.Prelude.{◌≡◌, ℕ, ◌^◌, ◌<◌, ◌≤◌, List, length, Result, Ok, Err, Vec}
 use Rattle.std.specs.List.{AllByRecursion}
 use Rattle.std.specs.declared.alloc.Global.{Global}
-use Rattle.bcv_disk.specs.Crash.{LeavesOnly, Only, Passes}
+use Rattle.bcv_disk.specs.Crash.{LeavesOnly, Only}
 use Rattle.bcv_disk.specs.DiskShown.{DiskShown, DiskTold}
 use Rattle.bcv_disk.specs.DiskCalls.{DiskFails}
 use Rattle.bcv_disk.specs.Troubles.{counted}
 use Rattle.bcv_journal.specs.Answers.{Refuses}
-use Rattle.bcv_journal.specs.Layout.{IsItem, Loads, empty, found, tail_of}
-use Rattle.bcv_journal.specs.Loaded.{load_calls}
+use Rattle.bcv_journal.specs.Layout.{IsItem, Loads, found, tail_of}
 use Rattle.bcv_journal.specs.Settled.{IsOldOrAlike, IsSettled, items_of}
 use Rattle.bcv_journal.specs.declared.area.Area.{Area}
 use Rattle.bcv_journal.specs.declared.fault.JournalFault.{JournalFault}
 use Rattle.bcv_journal.specs.declared.fault.JournalFault.TheVariants.{NotJournal, DiskFault, NoMemory}
+
+-- the items and their area, or why there are none
+abbrev pub Outcome : Type 0
+Outcome = Result (Vec (Vec ℕ Global) Global × Area) JournalFault
 
 -- whatever the disk, an area is that of the items
 pub record IsArea (area : Area) (items : List (List ℕ)) : Type 0 where
@@ -21,8 +24,38 @@ pub record IsArea (area : Area) (items : List (List ℕ)) : Type 0 where
   pub short : area.tail < 2 ^ 31
   pub each : AllByRecursion IsItem items
 
--- a fault that comes by the bytes leaves the count of calls that a load makes
-abbrev pub CountsFault : DiskShown → DiskShown → JournalFault → Type 0
-CountsFault old new (NotJournal place) = new.trouble.calls ≡ counted old.trouble.calls (load_calls old.seen)
-CountsFault old new DiskFault = Unit {0}
-CountsFault old new NoMemory = Unit {0}
+abbrev pub HasArea : Outcome → Type 0
+HasArea (Ok r) = IsArea r.1 (items_of r.0.items)
+HasArea (Err fault) = Unit {0}
+
+-- the items are those of the bytes and the disk has them, or the refusal is by the bytes
+abbrev pub GivesItems : List ℕ → DiskShown → Outcome → Type 0
+GivesItems bytes now (Ok r) = Loads bytes (Ok (items_of r.0.items)) × IsSettled now r.1 (items_of r.0.items) × (now.seen ≡ found bytes)
+GivesItems bytes now (Err fault) = Refuses bytes now fault
+
+abbrev pub IsDiskRefusal : Outcome → Type 0
+IsDiskRefusal (Ok r) = ⊥
+IsDiskRefusal (Err fault) = fault ≡ DiskFault
+
+-- where the file was read, so many calls were made
+abbrev pub CountsItems : ℕ → DiskShown → DiskShown → Outcome → Type 0
+CountsItems calls old new (Ok r) = new.trouble.calls ≡ counted old.trouble.calls calls
+CountsItems calls old new (Err (NotJournal place)) = new.trouble.calls ≡ counted old.trouble.calls calls
+CountsItems calls old new (Err DiskFault) = Unit {0}
+CountsItems calls old new (Err NoMemory) = Unit {0}
+
+-- the items of a file that is synced, in so many calls
+pub record PartLoads (told : DiskTold) (old new : DiskShown) (calls : ℕ) (result : Outcome) : Type 0 where
+  pub gives : told.tells → Only old.seen old.may_leave → GivesItems old.seen new result
+  pub area : HasArea result
+  pub any_moment : told.tells → Only old.seen old.may_leave → LeavesOnly old new (IsOldOrAlike old)
+  pub fails : DiskFails told old new (IsDiskRefusal result)
+  pub counts : told.troubled → CountsItems calls old new result
+
+-- the items of a disk's file
+pub record ItemsLoad (told : DiskTold) (old new : DiskShown) (calls : ℕ) (result : Outcome) : Type 0 where
+  pub gives : told.tells → GivesItems old.seen new result
+  pub area : HasArea result
+  pub any_moment : told.tells → LeavesOnly old new (IsOldOrAlike old)
+  pub fails : DiskFails told old new (IsDiskRefusal result)
+  pub counts : told.tells → told.troubled → CountsItems calls old new result

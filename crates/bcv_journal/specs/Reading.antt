@@ -1,5 +1,5 @@
 -- What the reader of a journal's bytes answers.
-use Rattle.std.specs.Prelude.{◌≡◌, ℕ, List, length, Err}
+use Rattle.std.specs.Prelude.{◌≡◌, ℕ, List, ◌∷◌, length, Err}
 use Rattle.bcv_journal.specs.Layout.{IsSpelled, Loads, is_second, tail_of}
 use Rattle.bcv_journal.specs.declared.area.Area.{Area}
 use Rattle.bcv_journal.specs.declared.fault.JournalFault.{JournalFault}
@@ -17,3 +17,7 @@ abbrev pub IsReadFault : List ℕ → JournalFault → Type 0
 IsReadFault bytes (NotJournal place) = Loads bytes (Err place)
 IsReadFault bytes DiskFault = ⊥
 IsReadFault bytes NoMemory = Unit {0}
+
+-- no open gate stands at the front
+abbrev pub IsShut : List ℕ → Type 0
+IsShut rest = (after : List ℕ) → rest ≡ 1 ∷ after → ⊥

@@ -1,11 +1,8 @@
 ghost use Rattle.std.specs.Prelude.{◌≡◌, ◌↔◌, ◌<◌, ◌≤◌, ◌+◌, ◌^◌, [], ◌∷◌, true, false, Some, List, ℕ, length, IsTrue};
-ghost use Rattle.bcv_journal.specs.Settled.{items_of};
 
 use crate::area::Area;
 use crate::item::write_item;
-use crate::layout::whole_area;
 use crate::load::load_items;
-use crate::restart::{choose, lay, place_for};
 use crate::{Load, Noted};
 use bcv_disk::{Disk, DiskEnd, Planned};
 use std::alloc::Global;
@@ -23,7 +20,7 @@ pub struct Journal<D: Disk> {
 }
 
 impl<D: Disk> Journal<D> {
-    ghost use Rattle.bcv_journal.specs.JournalCalls.{JournalAppends, JournalRestarts, MayRestart};
+    ghost use Rattle.bcv_journal.specs.JournalCalls.{JournalAppends};
     ghost use Rattle.bcv_journal.specs.Loaded.{JournalLoads};
     ghost use Rattle.bcv_journal.specs.Parts.{is_closed, start_at, tail_at};
 
@@ -89,44 +86,6 @@ impl<D: Disk> Journal<D> {
         match write_item(alloc, &mut self.disk, self.area, bytes) {
             DiskEnd::Done => {
                 self.area.tail += 5 + bytes.len() as u64;
-                Noted::Done
-            }
-            DiskEnd::Failed => {
-                self.closed = true;
-                Noted::DiskFault
-            }
-            DiskEnd::NoMemory => Noted::NoMemory,
-        }
-    }
-
-    /// Puts the given items in place of all, which frees at least half of the area.
-    ///
-    /// Every image that a crash leaves meanwhile loads as the old items or as the given ones.
-    pub fn restart(&mut self, alloc: Global, items: &[Vec<u8>]) -> Noted
-        requires { MayRestart (start_at self.old) (tail_at self.old) (items_of items.now) }
-        ensures { JournalRestarts D.told D.shown self.old self.new (items_of items.now) result }
-    {
-        if self.closed {
-            return Noted::Closed;
-        }
-        let Ok(block) = whole_area(alloc, items) else {
-            return Noted::NoMemory;
-        };
-        let size = block.len() as u64 - 1;
-        let start = place_for(size, self.area.start, self.area.tail);
-        let laid = lay(alloc, &mut self.disk, self.area, start, &block);
-        let end = match laid {
-            DiskEnd::Done => choose(alloc, &mut self.disk, !self.area.second),
-            DiskEnd::Failed => DiskEnd::Failed,
-            DiskEnd::NoMemory => DiskEnd::NoMemory,
-        };
-        match end {
-            DiskEnd::Done => {
-                self.area = Area {
-                    start,
-                    tail: start + size,
-                    second: !self.area.second,
-                };
                 Noted::Done
             }
             DiskEnd::Failed => {

@@ -1,19 +1,16 @@
 // The bytes of a journal's file.
-ghost use Rattle.std.specs.Prelude.{◌≡◌, ◌↔◌, ◌<◌, ◌≤◌, ◌+◌, ◌^◌, ◌++◌, [], ◌∷◌, List, ℕ, length, IfOk, IfErr, IsTrue, MatchOption, Result, take};
+ghost use Rattle.std.specs.Prelude.{◌≡◌, ◌↔◌, ◌<◌, ◌≤◌, ◌+◌, ◌^◌, ◌++◌, [], ◌∷◌, List, ℕ, length, IfOk, IfErr, IsTrue, OnOk, MatchOption, Result, take};
 ghost use Rattle.std.specs.Int.{w32, to_be_bytes};
 ghost use Rattle.std.specs.List.{AllByRecursion};
-ghost use Rattle.bcv_journal.specs.Layout.{HasItem, IsItem, Loads, area_of, field_of, magic, start_in};
+ghost use Rattle.bcv_journal.specs.Layout.{HasItem, IsItem, Loads, area_of, field_of, magic, open_item, start_in};
 ghost use Rattle.bcv_journal.specs.Settled.{items_of};
-ghost use Rattle.bcv_journal.specs.Reading.{IsRead, IsReadFault};
+ghost use Rattle.bcv_journal.specs.Reading.{IsRead, IsReadFault, IsShut};
 
 use crate::JournalFault;
 use crate::area::Area;
 use std::alloc::{AllocError, Global};
 
 pub const MAGIC: [u8; 8] = *b"BCVJRN02";
-
-/// The place of the selector.
-pub const SELECTOR: u64 = 8;
 
 /// An empty journal: the magic, selector 0, the starts 17 and 0, a closed gate.
 pub const EMPTY: [u8; 18] = *b"BCVJRN02\0\0\0\0\x11\0\0\0\0\0";
@@ -48,6 +45,16 @@ fn chosen_start(bytes: &[u8], second: bool) -> usize
     u32::from_be_bytes(field) as usize
 }
 
+/// What stands after the gate at the front, where it is open.
+fn after_gate(rest: &[u8]) -> Option<&[u8]>
+    ensures { MatchOption result (IsShut rest.now) (λ after. rest.now ≡ 1 ∷ after.now) }
+{
+    match rest {
+        [1, after @ ..] => Some(after),
+        _ => None,
+    }
+}
+
 /// What stands after an open gate: a whole item, and after it at least a gate.
 fn front_item(after: &[u8]) -> Option<(&[u8], &[u8])>
     ensures { MatchOption result ((item next : List ℕ) → HasItem after.now item next → ⊥) (λ r. HasItem after.now r.0.now r.1.now) }
@@ -77,7 +84,7 @@ pub fn read_items(alloc: Global, bytes: &[u8]) -> Result<(Vec<Vec<u8>>, Area), J
     }
     let mut items = Vec::new(alloc);
     let mut rest = &bytes[start..];
-    while let [1, after @ ..] = rest {
+    while let Some(after) = after_gate(rest) {
         let Some((item, next)) = front_item(after) else {
             return Err(JournalFault::NotJournal((bytes.len() - rest.len()) as u64));
         };
@@ -100,22 +107,6 @@ pub fn behind_gate(alloc: Global, item: &[u8]) -> Result<Vec<u8>, AllocError>
     let mut bytes = Vec::with_capacity(alloc, item.len() + 5)?;
     bytes.extend_from_slice(&(item.len() as u32).to_be_bytes())?;
     bytes.extend_from_slice(item)?;
-    bytes.push(0)?;
-    Ok(bytes)
-}
-
-/// An area of items: each with its open gate, and a closed gate after them.
-pub fn whole_area(alloc: Global, items: &[Vec<u8>]) -> Result<Vec<u8>, AllocError>
-    requires each { AllByRecursion IsItem (items_of items.now) }
-    requires short { length (area_of (items_of items.now)) < 2 ^ 31 }
-    ensures { IfOk result (λ v. v.items ≡ area_of (items_of items.now) ++ 0 ∷ []) }
-{
-    let mut bytes = Vec::new(alloc);
-    for item in items {
-        bytes.push(1)?;
-        bytes.extend_from_slice(&(item.len() as u32).to_be_bytes())?;
-        bytes.extend_from_slice(item)?;
-    }
     bytes.push(0)?;
     Ok(bytes)
 }
