@@ -118,9 +118,6 @@ no_text n (Some bs) h = h bs refl
 unfit : (n : ℕ) (bs : List ℕ) → (1 ≤ length bs → length bs ≤ n → ⊥) → fits n bs ≡ None
 unfit n bs h = grind (arith, common_steps)
 
-fit : (n : ℕ) (bs : List ℕ) → 1 ≤ length bs → length bs ≤ n → fits n bs ≡ Some bs
-fit n bs low high = grind (arith, common_steps)
-
 digits_only : (n : ℕ) (w : List ℕ) → bytes_eq w (codes "-") ≡ false → bytes_of_text n w ≡ option_and_then (λ bs. fits n bs) (unhexed w)
 digits_only n w e = rw e refl
 
@@ -131,12 +128,3 @@ text-unfit n w e h =
 
 pub text-other : (n : ℕ) (w : List ℕ) → bytes_eq w (codes "-") ≡ false → list_all is_lower_hex w ≡ false → bytes_of_text n w ≡ None
 text-other n w e h = digits_only n w e ∙ (rw (unhexed-other w h) refl)
-
--- what the digits write
-pub text-digits : (n : ℕ) (w new : List ℕ) (o : Option (Unit {0})) → bytes_eq w (codes "-") ≡ false → 1 ≤ length w / 2 → length w / 2 ≤ n
-    → MatchOption o (unhexed w ≡ None) (λ _. unhexed w ≡ Some new)
-    → MatchOption o (bytes_of_text n w ≡ None) (λ _. bytes_of_text n w ≡ Some new)
-text-digits n w new None e low high h = digits_only n w e ∙ (rw h refl)
-text-digits n w new (Some _) e low high h =
-    let two = unhexed-length w new h in
-    digits_only n w e ∙ (rw h (fit n new (omega (arith, two)) (omega (arith, two))))

@@ -1,5 +1,5 @@
 -- What was read of a list of words, and what is left of it.
-use Rattle.std.proofs.Common.{◌≡◌, ℕ, List, [], ◌∷◌, ◌++◌, Option, Some, None, Result, Ok, Err, refl, sym, ap, ◌∙◌, append_assoc, append-nil, ◌-◌, ◌≤◌, length, take, take_all, replicate}
+use Rattle.std.proofs.Common.{◌≡◌, ℕ, List, [], ◌∷◌, ◌++◌, Option, Some, None, Result, Ok, Err, refl, sym, ap, ◌∙◌, append_assoc, ◌-◌, ◌≤◌, length, take, take_all, replicate}
 use Rattle.std.specs.Option.{ok_or}
 use Rattle.bcv_base.specs.Image.{Page}
 use Rattle.bcv_base.specs.ManifestGrammar.{◌>>=◌}
@@ -8,7 +8,6 @@ use Rattle.bcv_model.specs.Words.{bytes_left, bytes_of_text, numbered_text, page
 use Rattle.bcv_model.specs.Script.{word_at, pages_at, pairs_at}
 use Rattle.bcv_script.specs.declared.stop.Stop.{Stop}
 use Rattle.bcv_script.specs.declared.stop.Stop.TheVariants as stop
-use Rattle.bcv_script.specs.Left.{HasMore}
 use Rattle.bcv_script.specs.Reading.{Stops}
 
 -- ---- one word
@@ -32,12 +31,6 @@ word_was {A = A} meaning w ws new (Some y) x n m e =
 word_read : {A : Type 0} (meaning : List ℕ → Option A) (old new : List (List ℕ)) (x : A) → word_at meaning old ≡ Ok (x, new) → WordRead meaning old new x
 word_read meaning [] new x e = cc
 word_read meaning (w ∷ ws) new x e = word_was meaning w ws new (meaning w) x (bytes_left (w ∷ ws)) refl e
-
--- a word that cannot stand
-word_stopped : {A B : Type 0} (o : Option A) (n left : ℕ) (ws : List (List ℕ)) (f : A → Result B ℕ)
-    → ◌≡◌ {A = Result (A × List (List ℕ)) ℕ} (ok_or o n >>= λ y. Ok (y, ws)) (Err left) → (ok_or o n >>= f) ≡ Err left
-word_stopped None n left ws f e = let same : n ≡ left = cc in ap Err same
-word_stopped (Some y) n left ws f e = cc
 
 some_of_ok : {A : Type 0} (o : Option A) (n : ℕ) (x : A) → ok_or o n ≡ Ok x → o ≡ Some x
 some_of_ok None n x e = cc
@@ -78,14 +71,7 @@ front_grows : {A : Type 0} (front : List A) (x : A) (read : Result (List A) ℕ)
 front_grows front x (Ok more) = ap Ok (sym (append_assoc front (x ∷ []) more))
 front_grows front x (Err left) = refl
 
-front_none : {A : Type 0} (read : Result (List A) ℕ) → read ≡ with_front [] read
-front_none (Ok more) = refl
-front_none (Err left) = refl
-
 -- ---- pages
-
-pub pages_first : (size : ℕ) (words : List (List ℕ)) → pages_at size words ≡ with_front [] (pages_at size words)
-pages_first size words = front_none (pages_at size words)
 
 pub pages_on : (size : ℕ) (all : Result (List Page) ℕ) (front : List Page) (old new : List (List ℕ)) (p : Page) → all ≡ with_front front (pages_at size old)
     → word_at (page_of_text size) old ≡ Ok (p, new) → all ≡ with_front (front ++ p ∷ []) (pages_at size new)
@@ -94,22 +80,7 @@ pages_on size all front old new p e h =
     let step : pages_at size old ≡ (pages_at size new >>= λ more. Ok (p ∷ more)) = rw (r.first, r.means) refl in
     e ∙ ap (with_front front) step ∙ front_grows front p (pages_at size new)
 
-pages_at_stop : (size : ℕ) (old : List (List ℕ)) (left : ℕ) → HasMore old → word_at (page_of_text size) old ≡ Err left → pages_at size old ≡ Err left
-pages_at_stop size [] left m h = cc
-pages_at_stop size (w ∷ ws) left m h = word_stopped (page_of_text size w) (bytes_left (w ∷ ws)) left ws (λ page. pages_at size ws >>= λ pages. Ok (page ∷ pages)) h
-
-pub pages_stop : (size : ℕ) (all : Result (List Page) ℕ) (front : List Page) (old : List (List ℕ)) (s : Stop) → all ≡ with_front front (pages_at size old) → HasMore old
-    → Stops s (word_at (page_of_text size) old) → Stops s all
-pages_stop size all front old (stop.Fault left) e m h = e ∙ ap (with_front front) (pages_at_stop size old left m h)
-pages_stop size all front old stop.NoMemory e m h = tt
-
-pub pages_end : (size : ℕ) (all : Result (List Page) ℕ) (front : List Page) (old : List (List ℕ)) → all ≡ with_front front (pages_at size old) → old ≡ [] → all ≡ Ok front
-pages_end size all front old e h = let last = rw h at e in last ∙ ap Ok (append-nil front)
-
 -- ---- numbered pages
-
-pub pairs_first : (size : ℕ) (words : List (List ℕ)) → pairs_at size 0 words ≡ with_front [] (pairs_at size 0 words)
-pairs_first size words = front_none (pairs_at size 0 words)
 
 pub pairs_on : (size after : ℕ) (all : Result (List (ℕ × Page)) ℕ) (front : List (ℕ × Page)) (old new : List (List ℕ)) (n : ℕ) (bytes : List ℕ) (p : Page)
     → all ≡ with_front front (pairs_at size after old) → word_at (pair_of size after) old ≡ Ok ((n, bytes), new) → p ≡ padded size bytes
@@ -118,19 +89,6 @@ pairs_on size after all front old new n bytes p e h is =
     let r = word_read (pair_of size after) old new (n, bytes) h in
     let step : pairs_at size after old ≡ (pairs_at size n new >>= λ more. Ok ((n, p) ∷ more)) = rw (r.first, r.means, is) refl in
     e ∙ ap (with_front front) step ∙ front_grows front (n, p) (pairs_at size n new)
-
-pairs_at_stop : (size after : ℕ) (old : List (List ℕ)) (left : ℕ) → HasMore old → word_at (pair_of size after) old ≡ Err left → pairs_at size after old ≡ Err left
-pairs_at_stop size after [] left m h = cc
-pairs_at_stop size after (w ∷ ws) left m h =
-    word_stopped (pair_of size after w) (bytes_left (w ∷ ws)) left ws (λ pair. pairs_at size pair.0 ws >>= λ pairs. Ok ((pair.0, padded size pair.1) ∷ pairs)) h
-
-pub pairs_stop : (size after : ℕ) (all : Result (List (ℕ × Page)) ℕ) (front : List (ℕ × Page)) (old : List (List ℕ)) (s : Stop) → all ≡ with_front front (pairs_at size after old) → HasMore old
-    → Stops s (word_at (pair_of size after) old) → Stops s all
-pairs_stop size after all front old (stop.Fault left) e m h = e ∙ ap (with_front front) (pairs_at_stop size after old left m h)
-pairs_stop size after all front old stop.NoMemory e m h = tt
-
-pub pairs_end : (size after : ℕ) (all : Result (List (ℕ × Page)) ℕ) (front : List (ℕ × Page)) (old : List (List ℕ)) → all ≡ with_front front (pairs_at size after old) → old ≡ [] → all ≡ Ok front
-pairs_end size after all front old e h = let last = rw h at e in last ∙ ap Ok (append-nil front)
 
 -- ---- a page filled up with zeros
 

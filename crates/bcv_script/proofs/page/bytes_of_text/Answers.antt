@@ -1,5 +1,5 @@
 use Rattle.std.proofs.Common.{rules, refl, arith}
-use Rattle.bcv_script.proofs.Hex.{text-unfit, text-other, text-digits}
+use Rattle.bcv_script.proofs.Hex.{text-unfit, text-other}
 use Rattle.bcv_script.proofs.page.bytes_of_text.Goals as goal
 
 pub returns-then-count-page_size-clause-value : goal.returns-then-count-page_size-clause-value
