@@ -7,10 +7,10 @@ use Rattle.bcv_pages.proofs.page_set.PageSet.forget.Goals as goal
 
 pub invariant_of-self : goal.invariant_of-self
 invariant_of-self c = record {
-  well = rw c.drop_first.ensures.items (drop-well c.self.inside.page_size c.self.inside.commits.items c.min-count.result c.self.invariant.well);
-  fits = omega (arith, c.self.invariant.fits);
-  room = λ ready. omega (arith, c.self.invariant.room ready);
-  next = λ ready. omega (arith, c.self.invariant.next ready);
+  well = rw c.drop_first.ensures.items (drop-well c.self.inside.page_size c.self.inside.commits.items c.min-count.result c.self.invariant.0.well);
+  fits = omega (arith, c.self.invariant.0.fits);
+  room = λ ready. omega (arith, c.self.invariant.0.room ready);
+  next = λ ready. omega (arith, c.self.invariant.0.next ready);
 }
 
 pub returns-clause-forgot : goal.returns-clause-forgot
