@@ -1,6 +1,6 @@
 -- The numbers of the commits that wrote each page.
-use Rattle.std.specs.Prelude.{◌≡◌, ◌≢◌, ℕ, ◌+◌, ◌<◌, ◌≤◌, List, [], ◌∷◌, length, slice_index, nat_lt, nat_le, MatchOption, Option, is_some, unwrap_or, vec_len, vec_capacity, if◌then◌else◌}
-use Rattle.std.specs.List.{filter}
+use Rattle.std.specs.Prelude.{◌≡◌, ◌≢◌, ℕ, Bool, false, nat_eq, ◌+◌, ◌<◌, ◌≤◌, ◌^◌, List, [], ◌∷◌, length, slice_index, nat_lt, nat_le, MatchOption, Option, is_some, unwrap_or, vec_len, vec_capacity, if◌then◌else◌}
+use Rattle.std.specs.List.{filter, list_any}
 use Rattle.std.specs.Global.{Vec}
 use Rattle.std.specs.Option.{option_map, IsSomeAnd}
 use Rattle.std.specs.Ordering.{nat_cmp}
@@ -37,4 +37,11 @@ pub record IsNextWritten (lists : BTreeMap ℕ (Vec ℕ)) (from to page next : �
 -- the first such page, and none where there is no such page
 abbrev pub FindsWritten : BTreeMap ℕ (Vec ℕ) → ℕ → ℕ → ℕ → Option ℕ → Type 0
 FindsWritten lists from to page found =
-    MatchOption found ((p : ℕ) → page ≤ p → numbers_within from to (listed lists p) ≡ []) (IsNextWritten lists from to page)
+    MatchOption found ((p : ℕ) → page ≤ p → p < 2 ^ 32 → numbers_within from to (listed lists p) ≡ []) (IsNextWritten lists from to page)
+
+-- what is left under a page: the numbers past one, in their room; what is dropped is empty, and is no page to be kept
+pub record Leaves (upto : ℕ) (ready : List ℕ) (page : ℕ) (old : Vec ℕ) (kept : Bool) (new : Vec ℕ) : Type 0 where
+  pub numbers : are_rising old.items → new.items ≡ filter (nat_lt upto) old.items
+  pub room : vec_len old < vec_capacity old → vec_len new < vec_capacity new
+  pub empty : kept ≡ false → new.items ≡ []
+  pub other : kept ≡ false → list_any (λ n. nat_eq n page) ready ≡ false

@@ -5,7 +5,7 @@ use Rattle.std.specs.Option.{IfSome}
 use Rattle.std.specs.BTreeMap.{BTreeMap}
 use Rattle.bcv_base.specs.Image.{Writes}
 use Rattle.bcv_pages.specs.Held.{Held}
-use Rattle.bcv_pages.specs.Index.{writing, listed, has_room, are_rising}
+use Rattle.bcv_pages.specs.Index.{writing, listed, has_room}
 use Rattle.bcv_pages.specs.Minima.{Minima}
 
 -- the sizes of commits
@@ -15,7 +15,6 @@ sizes cs = map (λ c. c.size) cs
 -- there is room for a commit that writes these pages
 pub record IsReady (lists : BTreeMap ℕ (Vec ℕ)) (minima_ready : Bool) (pages : List ℕ) : Type 0 where
   pub minimum : minima_ready ≡ true
-  pub rising : are_rising pages
   pub room : (k : ℕ) → k < length pages → has_room lists (slice_index pages k)
 
 -- the index lists the commits that write each page, the minima are those of the commits' sizes, and what is ready has room

@@ -1,7 +1,7 @@
-ghost use Rattle.std.specs.Prelude.{◌≡◌, ℕ, ◌<◌, ◌≤◌, ◌≢◌, [], ◌∷◌, ◌++◌, map, length, take, drop, nat_lt, nat_le, slice_index, vec_len, vec_capacity, OnOk, is_some, if◌then◌else◌};
+ghost use Rattle.std.specs.Prelude.{◌≡◌, ℕ, ◌<◌, ◌≤◌, ◌≢◌, [], ◌∷◌, ◌++◌, map, length, take, drop, nat_lt, nat_le, slice_index, OnOk, is_some, if◌then◌else◌};
 ghost use Rattle.std.specs.List.{filter};
 ghost use Rattle.bcv_base.specs.Image.{written};
-ghost use Rattle.bcv_pages.specs.Index.{listed, has_room, are_rising, numbers_within, FindsWritten};
+ghost use Rattle.bcv_pages.specs.Index.{listed, has_room, are_rising, numbers_within, FindsWritten, Leaves};
 ghost use Rattle.bcv_pages.specs.Placed.{IsAscending};
 
 use crate::fronts::drop_first;
@@ -91,15 +91,12 @@ impl PageIndex {
 
     /// Drops the numbers up to `upto`, and each list that becomes empty, but for those of the pages in `ready`.
     pub(crate) fn forget(&mut self, upto: u64, ready: &[u32])
-        requires rising { (p : ℕ) → are_rising (listed self.old.lists p) }
-        requires ready { are_rising ready.now }
+        requires { (p : ℕ) → are_rising (listed self.old.lists p) }
         ensures listed { (p : ℕ) → listed self.new.lists p ≡ filter (nat_lt upto) (listed self.old.lists p) }
         ensures room { (k : ℕ) → k < length ready.now → has_room self.old.lists (slice_index ready.now k) → has_room self.new.lists (slice_index ready.now k) }
     {
-        self.lists.retain(|page, numbers| {
-            drop_upto(numbers, upto);
-            !numbers.is_empty() || ready.binary_search(page).is_ok()
-        });
+        self.lists
+            .retain(|page, numbers| keep_after(*page, numbers, upto, ready));
     }
 
     /// The first page from `page` on that one of the commits numbered from `from` + 1 to `to` wrote.
@@ -118,14 +115,13 @@ impl PageIndex {
     }
 }
 
-// Drops the numbers up to `upto`, and keeps the room.
-fn drop_upto(numbers: &mut Vec<u64>, upto: u64)
-    requires { are_rising numbers.old.items }
-    ensures items { numbers.new.items ≡ filter (nat_lt upto) numbers.old.items }
-    ensures room { vec_len numbers.old < vec_capacity numbers.old → vec_len numbers.new < vec_capacity numbers.new }
+// Drops the numbers up to `upto` under a page, keeps their room, and says whether the list stays.
+fn keep_after(page: u32, numbers: &mut Vec<u64>, upto: u64, ready: &[u32]) -> bool
+    ensures { Leaves upto ready.now page numbers.old result numbers.new }
 {
     let count = count_upto(numbers.as_slice(), upto);
     drop_first(numbers, count);
+    !numbers.is_empty() || ready.contains(&page)
 }
 
 /// The numbers from `from` + 1 to `to` among numbers that ascend.
@@ -137,12 +133,11 @@ pub(crate) fn within(numbers: &[u64], from: u64, to: u64) -> &[u64]
     &after[..count_upto(after, to)]
 }
 
-// How many of the numbers, which ascend, are at most `upto`.
+// How many of the numbers are at most `upto`, where they ascend.
 fn count_upto(numbers: &[u64], upto: u64) -> usize
-    requires { are_rising numbers.now }
     ensures fits { result ≤ length numbers.now }
-    ensures front { take result numbers.now ≡ filter (λ n. nat_le n upto) numbers.now }
-    ensures back { drop result numbers.now ≡ filter (nat_lt upto) numbers.now }
+    ensures front { are_rising numbers.now → take result numbers.now ≡ filter (λ n. nat_le n upto) numbers.now }
+    ensures back { are_rising numbers.now → drop result numbers.now ≡ filter (nat_lt upto) numbers.now }
 {
     numbers.partition_point(|number| *number <= upto)
 }

@@ -1,4 +1,4 @@
-ghost use Rattle.std.specs.Prelude.{◌≡◌, ℕ, ◌+◌, ◌-◌, ◌^◌, ◌<◌, ◌≤◌, true, min, List, [], ◌∷◌, map, length, drop, vec_len, vec_capacity, Option, Some, None, is_ok, IfOk, OnOk, if◌then◌else◌};
+ghost use Rattle.std.specs.Prelude.{◌≡◌, ℕ, ◌+◌, ◌-◌, ◌^◌, ◌<◌, ◌≤◌, true, min, List, [], ◌∷◌, map, length, drop, vec_len, vec_capacity, Option, Some, None, option_map, unwrap_or, is_ok, IfOk, IfSome, OnOk, if◌then◌else◌};
 ghost use Rattle.std.specs.List.{list_all};
 ghost use Rattle.std.specs.Int.{div_ceil};
 ghost use Rattle.bcv_base.specs.Image.{Page, Writes, view_image};
@@ -114,10 +114,10 @@ impl PageSet {
         ensures origin { shown result ≡ origin base_pages (view_of self.now from to) page }
         ensures found { Finds self.now.page_size base_pages (view_of self.now from to) page result }
     {
-        match self.writes_within(from, to, page).last() {
+        let writes = within(self.index.writes(page), from, to);
+        match writes.last() {
             Some(number) => self.written_at(*number, to, page),
-            None if page <= self.pages_kept(base_pages, from, to) => PageAt::Base,
-            None => PageAt::Zeros,
+            None => self.unwritten_at(base_pages, from, to, page),
         }
     }
 
@@ -165,11 +165,8 @@ impl PageSet {
         drop_first(&mut self.commits, count as usize);
         self.minima.drop_first(count as usize);
         self.forgotten += count;
-        let ready = match &self.ready {
-            Some(numbers) => numbers.as_slice(),
-            None => &[],
-        };
-        self.index.forget(self.forgotten, ready);
+        self.index
+            .forget(self.forgotten, ready_pages(&self.ready));
     }
 
     // The commits of a view.
@@ -184,12 +181,17 @@ impl PageSet {
         &self.commits[first..end]
     }
 
-    // The numbers of the commits of a view that wrote a page.
-    fn writes_within(&self, from: u64, to: u64, page: u32) -> &[u64]
-        requires { CanView self.now from to }
-        ensures { result.now ≡ writing (from + 1) (view_of self.now from to) page }
+    // What a view has at a page that no commit of it wrote.
+    fn unwritten_at(&self, base_pages: u32, from: u64, to: u64, page: u32) -> PageAt<'_>
+        requires view { CanView self.now from to }
+        requires none { writing (from + 1) (view_of self.now from to) page ≡ [] }
+        ensures { shown result ≡ origin base_pages (view_of self.now from to) page }
     {
-        within(self.index.writes(page), from, to)
+        if page <= self.pages_kept(base_pages, from, to) {
+            PageAt::Base
+        } else {
+            PageAt::Zeros
+        }
     }
 
     // How many pages from the first on each image of a view has, from the base's on.
@@ -208,6 +210,7 @@ impl PageSet {
     // What the view has at a page that the commit of this number wrote last.
     fn written_at(&self, number: u64, to: u64, page: u32) -> PageAt<'_>
         requires first { 1 ≤ number }
+        requires there { number ≤ to }
         requires view { CanView self.now (number - 1) to }
         requires last { writing number (view_of self.now (number - 1) to) page ≡ number ∷ [] }
         ensures { (base_pages : ℕ) → shown result ≡ origin base_pages (view_of self.now (number - 1) to) page }
@@ -233,7 +236,8 @@ impl PageSet {
     ) -> Option<u32>
         requires view { CanView self.now from to }
         requires some { 1 ≤ per_block }
-        ensures { FindsBlock (has_local per_block base_pages (view_of self.now from to)) (div_ceil (view_size base_pages (view_of self.now from to)) per_block) start result }
+        ensures fits { IfSome result (λ block. block < 2 ^ 32 - 1) }
+        ensures found { FindsBlock (has_local per_block base_pages (view_of self.now from to)) (div_ceil (view_size base_pages (view_of self.now from to)) per_block) start result }
     {
         let before = u64::from(start) * u64::from(per_block);
         let size = self.size(base_pages, from, to);
@@ -259,6 +263,16 @@ impl PageSet {
             Some(written) => grown.min(u64::from(written)),
             None => grown,
         }
+    }
+}
+
+// The pages of the commit for which there is room.
+fn ready_pages(ready: &Option<Vec<u32>>) -> &[u32]
+    ensures { result.now ≡ unwrap_or (option_map (λ numbers. numbers.items) ready.now) [] }
+{
+    match ready {
+        Some(numbers) => numbers.as_slice(),
+        None => &[],
     }
 }
 
