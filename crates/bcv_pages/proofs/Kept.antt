@@ -116,15 +116,15 @@ kept-least base cs start count least inside is =
     let long : length V ≡ count = omega (arith, length-take count (drop start cs), length-drop start cs) in
     le_antisymm
     (kept-greatest base V (min base least) (omega arith) (λ k lt.
-        let low : least ≤ get_or (sizes cs) (start + k) 0 = is.below (start + k) (omega arith) (omega arith) in
-        rw (size-at cs start count k (omega arith)) (omega arith)))
+    let low : least ≤ get_or (sizes cs) (start + k) 0 = is.below (start + k) (omega arith) (omega arith) in
+    rw (size-at cs start count k (omega arith)) (omega arith)))
     (let most : pages_kept base V ≤ base = kept-base base V in
-        let under : pages_kept base V ≤ least = is.greatest (pages_kept base V) (λ k low high.
-            let there : pages_kept base V ≤ get_or (sizes V) (k - start) 0 = kept-below base V (k - start) (omega arith) in
-            let at : start + (k - start) ≡ k = omega arith in
-            let same : get_or (sizes V) (k - start) 0 ≡ get_or (sizes cs) k 0 = size-at cs start count (k - start) (omega arith) ∙ ap (λ i. get_or (sizes cs) i 0) at in
-            omega arith) in
-        omega arith)
+    let under : pages_kept base V ≤ least = is.greatest (pages_kept base V) (λ k low high.
+    let there : pages_kept base V ≤ get_or (sizes V) (k - start) 0 = kept-below base V (k - start) (omega arith) in
+    let at : start + (k - start) ≡ k = omega arith in
+    let same : get_or (sizes V) (k - start) 0 ≡ get_or (sizes cs) k 0 = size-at cs start count (k - start) (omega arith) ∙ ap (λ i. get_or (sizes cs) i 0) at in
+    omega arith) in
+    omega arith)
 
 -- ---- where a page comes from
 cond-same : {A : Type 0} (b : Bool) (x : A) → cond b x x ≡ x
@@ -313,8 +313,7 @@ view-last h from to p n ns can are last =
     let many : to - from ≡ (n - (from + 1)) + (to - (n - 1)) = omega (arith, can.order) in
     let at : from - h.forgotten + (n - (from + 1)) ≡ n - 1 - h.forgotten = omega (arith, can.kept) in
     let view : drop (n - (from + 1)) V ≡ view_of h (n - 1) to =
-        view-later h.kept (from - h.forgotten) (to - from) (n - (from + 1)) (to - (n - 1)) many ∙ ap (λ i. take (to - (n - 1)) (drop i h.kept)) at in
-    (
+    view-later h.kept (from - h.forgotten) (to - from) (n - (from + 1)) (to - (n - 1)) many ∙ ap (λ i. take (to - (n - 1)) (drop i h.kept)) at in (
       omega arith,
       omega (arith, can.order),
       record { kept = omega (arith, can.kept); order = omega (arith, can.order); there = can.there },

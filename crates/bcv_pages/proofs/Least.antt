@@ -73,7 +73,7 @@ columns-drop n columns are k inside j fits =
     let start : n + k + 1 - 2 ^ j ≡ n + (k + 1 - 2 ^ j) = omega arith in
     let end : n + k + 1 ≡ n + (k + 1) = omega arith in
     let moved = subst (λ (a : ℕ). IsLeast (sizes_of columns) a (n + (k + 1)) (get_or (get_or columns (n + k) []) j 0)) start
-        (subst (λ (b : ℕ). IsLeast (sizes_of columns) (n + k + 1 - 2 ^ j) b (get_or (get_or columns (n + k) []) j 0)) end old.1) in
+    (subst (λ (b : ℕ). IsLeast (sizes_of columns) (n + k + 1 - 2 ^ j) b (get_or (get_or columns (n + k) []) j 0)) end old.1) in
     rw (get_or-drop n columns k [], ← drop-map (λ (c : List ℕ). get_or c 0 0) n columns) (old.0, least-drop (sizes_of columns) n (k + 1 - 2 ^ j) (k + 1) _ moved)
 
 -- one of the columns, as it is read

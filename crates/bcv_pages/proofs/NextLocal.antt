@@ -68,7 +68,7 @@ pub block-before : (base per page next b : ℕ) (cs : List Writes) → IsNextLoc
     → ((b * per + per < next) ⊎ (view_size base cs < next)) → has_local per base cs b ≡ false
 block-before base per page next b cs is low high =
     none-in (λ p. not (is_base base cs p)) (b * per + 1) (min per (view_size base cs - b * per)) (λ i lt.
-        ap not (is.before (b * per + 1 + i) (omega arith) (elim high [ inl early ↦ omega arith | inr past ↦ omega arith ])))
+    ap not (is.before (b * per + 1 + i) (omega arith) (elim high [ inl early ↦ omega arith | inr past ↦ omega arith ])))
 
 -- its own block has one
 pub block-there : (base per page next : ℕ) (cs : List Writes) → 1 ≤ per → 1 ≤ page → IsNextLocal base cs page next → next ≤ view_size base cs → has_local per base cs ((next - 1) / per) ≡ true

@@ -167,10 +167,10 @@ none-there (w ∷ ws) p other =
 none-before : (ws : List (ℕ × Page)) (i : ℕ) → IsAscending ws → i < length ws → written (take i ws) (number_at ws i) ≡ None
 none-before ws i up inside =
     none-there (take i ws) (number_at ws i) (λ j lt.
-        let before : j < i = omega (arith, length-take i ws) in
-        let at : number_at (take i ws) j ≡ number_at ws j = ap (λ (w : ℕ × Page). w.0) (get_or-take i ws j (0, []) before) in
-        let less : number_at ws j < number_at ws i = up j i before inside in
-        λ same. absurd (omega arith))
+    let before : j < i = omega (arith, length-take i ws) in
+    let at : number_at (take i ws) j ≡ number_at ws j = ap (λ (w : ℕ × Page). w.0) (get_or-take i ws j (0, []) before) in
+    let less : number_at ws j < number_at ws i = up j i before inside in
+    λ same. absurd (omega arith))
 
 -- one more page of a commit
 pub some-more : (ws : List (ℕ × Page)) (i : ℕ) (w : ℕ × Page) (p : ℕ) → i < length ws → w ≡ get_or ws i w → is_some (written (take (i + 1) ws) p) ≡ (is_some (written (take i ws) p) || (w.0 == p))

@@ -165,8 +165,7 @@ impl PageSet {
         drop_first(&mut self.commits, count as usize);
         self.minima.drop_first(count as usize);
         self.forgotten += count;
-        self.index
-            .forget(self.forgotten, ready_pages(&self.ready));
+        self.index.forget(self.forgotten, ready_pages(&self.ready));
     }
 
     // The commits of a view.

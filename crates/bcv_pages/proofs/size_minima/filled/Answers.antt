@@ -44,7 +44,7 @@ loop-width-preserved c =
     let left = read-at c.index-columns-count.result.items level c.index.result.now there c.index.ensures in
     let right = read-at column level c.index-in-loop-width.result.now (omega arith) c.index-in-loop-width.ensures in
     let items : c.append-in-loop-width.new.numbers.items ≡ column ++ min (get_or c.index-columns-count.result.items level 0) (get_or column level 0) ∷ [] =
-        c.append-in-loop-width.ensures.items ∙ ap (λ (n : ℕ). column ++ n ∷ []) (c.min-least.ensures ∙ ap (λ (n : ℕ). min n c.index-in-loop-width.result.now) left ∙ ap (λ (n : ℕ). min (get_or c.index-columns-count.result.items level 0) n) right) in
+    c.append-in-loop-width.ensures.items ∙ ap (λ (n : ℕ). column ++ n ∷ []) (c.min-least.ensures ∙ ap (λ (n : ℕ). min n c.index-in-loop-width.result.now) left ∙ ap (λ (n : ℕ). min (get_or c.index-columns-count.result.items level 0) n) right) in
     record {
       length = omega (arith, c.append-in-loop-width.ensures.len, inv.length);
       width = omega (arith, inv.width);

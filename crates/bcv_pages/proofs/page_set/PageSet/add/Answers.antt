@@ -35,8 +35,7 @@ invariant_of-self-2 c =
     let numbers : List ℕ = numbers_of (writes_of c.args.commit) in
     let is : option_map (λ (v : Vec ℕ). v.items) c.self.inside.ready ≡ Some numbers = ap (λ (h : Held). h.ready) c.self.view_is ∙ c.requires.ready in
     let next = c.self.invariant.0.next (ap is_some is) in
-    let one = subst (λ n. is_commit n (writes_of c.args.commit) ≡ true) (sym (ap (λ (h : Held). h.page_size) c.self.view_is)) c.requires.commit in
-    (
+    let one = subst (λ n. is_commit n (writes_of c.args.commit) ≡ true) (sym (ap (λ (h : Held). h.page_size) c.self.view_is)) c.requires.commit in (
       record {
         well = rw c.in-Ok.ensures.items (well-push c.self.inside.page_size items c.args.commit c.self.invariant.0.well one);
         fits = omega (arith, c.in-Ok.ensures.len, next);

@@ -20,8 +20,8 @@ written_at-requires-clause-first c =
     let kept : List Writes = map writes_of c.self.inside.commits.items in
     let forgotten : c.self.inside.forgotten ≡ c.args.self.now.forgotten = ap (λ (h : Held). h.forgotten) c.self.view_is in
     let found : c.within-writes.result.now ≡ writing (c.args.from + 1) (view_of c.args.self.now c.args.from c.args.to) c.args.page =
-        c.within-writes.ensures ∙ ap (numbers_within c.args.from c.args.to) c.writes.ensures
-        ∙ rw (← c.self.view_is) (found-within c.self.inside.index.lists c.self.inside.forgotten c.args.from c.args.to kept c.args.page (c.self.invariant.1.pages c.args.page) (omega (arith, c.requires.view.kept))) in
+    c.within-writes.ensures ∙ ap (numbers_within c.args.from c.args.to) c.writes.ensures
+    ∙ rw (← c.self.view_is) (found-within c.self.inside.index.lists c.self.inside.forgotten c.args.from c.args.to kept c.args.page (c.self.invariant.1.pages c.args.page) (omega (arith, c.requires.view.kept))) in
     let last = view-last c.args.self.now c.args.from c.args.to c.args.page c.in-Some.number.now c.within-writes.result.now c.requires.view found (sym c.in-Some.ensures.value) in
     last.0
 
@@ -30,8 +30,8 @@ written_at-requires-clause-there c =
     let kept : List Writes = map writes_of c.self.inside.commits.items in
     let forgotten : c.self.inside.forgotten ≡ c.args.self.now.forgotten = ap (λ (h : Held). h.forgotten) c.self.view_is in
     let found : c.within-writes.result.now ≡ writing (c.args.from + 1) (view_of c.args.self.now c.args.from c.args.to) c.args.page =
-        c.within-writes.ensures ∙ ap (numbers_within c.args.from c.args.to) c.writes.ensures
-        ∙ rw (← c.self.view_is) (found-within c.self.inside.index.lists c.self.inside.forgotten c.args.from c.args.to kept c.args.page (c.self.invariant.1.pages c.args.page) (omega (arith, c.requires.view.kept))) in
+    c.within-writes.ensures ∙ ap (numbers_within c.args.from c.args.to) c.writes.ensures
+    ∙ rw (← c.self.view_is) (found-within c.self.inside.index.lists c.self.inside.forgotten c.args.from c.args.to kept c.args.page (c.self.invariant.1.pages c.args.page) (omega (arith, c.requires.view.kept))) in
     let last = view-last c.args.self.now c.args.from c.args.to c.args.page c.in-Some.number.now c.within-writes.result.now c.requires.view found (sym c.in-Some.ensures.value) in
     last.1
 
@@ -40,8 +40,8 @@ written_at-requires-clause-view c =
     let kept : List Writes = map writes_of c.self.inside.commits.items in
     let forgotten : c.self.inside.forgotten ≡ c.args.self.now.forgotten = ap (λ (h : Held). h.forgotten) c.self.view_is in
     let found : c.within-writes.result.now ≡ writing (c.args.from + 1) (view_of c.args.self.now c.args.from c.args.to) c.args.page =
-        c.within-writes.ensures ∙ ap (numbers_within c.args.from c.args.to) c.writes.ensures
-        ∙ rw (← c.self.view_is) (found-within c.self.inside.index.lists c.self.inside.forgotten c.args.from c.args.to kept c.args.page (c.self.invariant.1.pages c.args.page) (omega (arith, c.requires.view.kept))) in
+    c.within-writes.ensures ∙ ap (numbers_within c.args.from c.args.to) c.writes.ensures
+    ∙ rw (← c.self.view_is) (found-within c.self.inside.index.lists c.self.inside.forgotten c.args.from c.args.to kept c.args.page (c.self.invariant.1.pages c.args.page) (omega (arith, c.requires.view.kept))) in
     let last = view-last c.args.self.now c.args.from c.args.to c.args.page c.in-Some.number.now c.within-writes.result.now c.requires.view found (sym c.in-Some.ensures.value) in
     last.2
 
@@ -50,8 +50,8 @@ written_at-requires-clause-last c =
     let kept : List Writes = map writes_of c.self.inside.commits.items in
     let forgotten : c.self.inside.forgotten ≡ c.args.self.now.forgotten = ap (λ (h : Held). h.forgotten) c.self.view_is in
     let found : c.within-writes.result.now ≡ writing (c.args.from + 1) (view_of c.args.self.now c.args.from c.args.to) c.args.page =
-        c.within-writes.ensures ∙ ap (numbers_within c.args.from c.args.to) c.writes.ensures
-        ∙ rw (← c.self.view_is) (found-within c.self.inside.index.lists c.self.inside.forgotten c.args.from c.args.to kept c.args.page (c.self.invariant.1.pages c.args.page) (omega (arith, c.requires.view.kept))) in
+    c.within-writes.ensures ∙ ap (numbers_within c.args.from c.args.to) c.writes.ensures
+    ∙ rw (← c.self.view_is) (found-within c.self.inside.index.lists c.self.inside.forgotten c.args.from c.args.to kept c.args.page (c.self.invariant.1.pages c.args.page) (omega (arith, c.requires.view.kept))) in
     let last = view-last c.args.self.now c.args.from c.args.to c.args.page c.in-Some.number.now c.within-writes.result.now c.requires.view found (sym c.in-Some.ensures.value) in
     last.3
 
@@ -60,8 +60,8 @@ unwritten_at-requires-clause-none c =
     let kept : List Writes = map writes_of c.self.inside.commits.items in
     let forgotten : c.self.inside.forgotten ≡ c.args.self.now.forgotten = ap (λ (h : Held). h.forgotten) c.self.view_is in
     let found : c.within-writes.result.now ≡ writing (c.args.from + 1) (view_of c.args.self.now c.args.from c.args.to) c.args.page =
-        c.within-writes.ensures ∙ ap (numbers_within c.args.from c.args.to) c.writes.ensures
-        ∙ rw (← c.self.view_is) (found-within c.self.inside.index.lists c.self.inside.forgotten c.args.from c.args.to kept c.args.page (c.self.invariant.1.pages c.args.page) (omega (arith, c.requires.view.kept))) in
+    c.within-writes.ensures ∙ ap (numbers_within c.args.from c.args.to) c.writes.ensures
+    ∙ rw (← c.self.view_is) (found-within c.self.inside.index.lists c.self.inside.forgotten c.args.from c.args.to kept c.args.page (c.self.invariant.1.pages c.args.page) (omega (arith, c.requires.view.kept))) in
     sym found ∙ none-last c.within-writes.result.now c.in-None.ensures.value
 
 pub returns-in-Some-clause-origin : goal.returns-in-Some-clause-origin
@@ -69,8 +69,8 @@ returns-in-Some-clause-origin c =
     let kept : List Writes = map writes_of c.self.inside.commits.items in
     let forgotten : c.self.inside.forgotten ≡ c.args.self.now.forgotten = ap (λ (h : Held). h.forgotten) c.self.view_is in
     let found : c.within-writes.result.now ≡ writing (c.args.from + 1) (view_of c.args.self.now c.args.from c.args.to) c.args.page =
-        c.within-writes.ensures ∙ ap (numbers_within c.args.from c.args.to) c.writes.ensures
-        ∙ rw (← c.self.view_is) (found-within c.self.inside.index.lists c.self.inside.forgotten c.args.from c.args.to kept c.args.page (c.self.invariant.1.pages c.args.page) (omega (arith, c.requires.view.kept))) in
+    c.within-writes.ensures ∙ ap (numbers_within c.args.from c.args.to) c.writes.ensures
+    ∙ rw (← c.self.view_is) (found-within c.self.inside.index.lists c.self.inside.forgotten c.args.from c.args.to kept c.args.page (c.self.invariant.1.pages c.args.page) (omega (arith, c.requires.view.kept))) in
     let last = view-last c.args.self.now c.args.from c.args.to c.args.page c.in-Some.number.now c.within-writes.result.now c.requires.view found (sym c.in-Some.ensures.value) in
     c.written_at.ensures c.args.base_pages ∙ last.4 c.args.base_pages
 
@@ -79,15 +79,15 @@ returns-in-Some-clause-found c =
     let kept : List Writes = map writes_of c.self.inside.commits.items in
     let forgotten : c.self.inside.forgotten ≡ c.args.self.now.forgotten = ap (λ (h : Held). h.forgotten) c.self.view_is in
     let found : c.within-writes.result.now ≡ writing (c.args.from + 1) (view_of c.args.self.now c.args.from c.args.to) c.args.page =
-        c.within-writes.ensures ∙ ap (numbers_within c.args.from c.args.to) c.writes.ensures
-        ∙ rw (← c.self.view_is) (found-within c.self.inside.index.lists c.self.inside.forgotten c.args.from c.args.to kept c.args.page (c.self.invariant.1.pages c.args.page) (omega (arith, c.requires.view.kept))) in
+    c.within-writes.ensures ∙ ap (numbers_within c.args.from c.args.to) c.writes.ensures
+    ∙ rw (← c.self.view_is) (found-within c.self.inside.index.lists c.self.inside.forgotten c.args.from c.args.to kept c.args.page (c.self.invariant.1.pages c.args.page) (omega (arith, c.requires.view.kept))) in
     let last = view-last c.args.self.now c.args.from c.args.to c.args.page c.in-Some.number.now c.within-writes.result.now c.requires.view found (sym c.in-Some.ensures.value) in
     let well : list_all (is_commit c.args.self.now.page_size) (view_of c.args.self.now c.args.from c.args.to) ≡ true =
-        rw (← c.self.view_is) (view-well c.self.inside.page_size (map writes_of c.self.inside.commits.items) (c.args.to - c.args.from) (c.args.from - c.self.inside.forgotten) c.self.invariant.0.well) in
+    rw (← c.self.view_is) (view-well c.self.inside.page_size (map writes_of c.self.inside.commits.items) (c.args.to - c.args.from) (c.args.from - c.self.inside.forgotten) c.self.invariant.0.well) in
     finds _ _ _ _ _ well (c.written_at.ensures c.args.base_pages ∙ last.4 c.args.base_pages) c.requires.first c.requires.last
 
 pub returns-in-None-clause-found : goal.returns-in-None-clause-found
 returns-in-None-clause-found c =
     let well : list_all (is_commit c.args.self.now.page_size) (view_of c.args.self.now c.args.from c.args.to) ≡ true =
-        rw (← c.self.view_is) (view-well c.self.inside.page_size (map writes_of c.self.inside.commits.items) (c.args.to - c.args.from) (c.args.from - c.self.inside.forgotten) c.self.invariant.0.well) in
+    rw (← c.self.view_is) (view-well c.self.inside.page_size (map writes_of c.self.inside.commits.items) (c.args.to - c.args.from) (c.args.from - c.self.inside.forgotten) c.self.invariant.0.well) in
     finds _ _ _ _ _ well c.unwritten_at.ensures c.requires.first c.requires.last

@@ -17,8 +17,7 @@ pub invariant_of-self : goal.invariant_of-self
 invariant_of-self c =
     let items : List Commit = c.self.inside.commits.items in
     let count : ℕ = c.min-count.result in
-    let dropped : c.drop_first-2.new.self.sizes ≡ drop count c.self.inside.minima.sizes = ap (λ (m : Minima). m.sizes) c.drop_first-2.ensures in
-    (
+    let dropped : c.drop_first-2.new.self.sizes ≡ drop count c.self.inside.minima.sizes = ap (λ (m : Minima). m.sizes) c.drop_first-2.ensures in (
       record {
         well = rw c.drop_first.ensures.items (drop-well c.self.inside.page_size items count c.self.invariant.0.well);
         fits = omega (arith, c.self.invariant.0.fits);

@@ -12,8 +12,7 @@ pub invariant_of-self-2 : goal.invariant_of-self-2
 invariant_of-self-2 c =
     let kept : List Writes = map writes_of c.self.inside.commits.items in
     let last : c.self.inside.forgotten + length kept ≡ last_of c.args.self.now = ap last_of c.self.view_is in
-    let many : length kept ≡ length c.self.inside.commits.items = length-map c.self.inside.commits.items writes_of in
-    (
+    let many : length kept ≡ length c.self.inside.commits.items = length-map c.self.inside.commits.items writes_of in (
       record {
         well = rw c.in_ok-reserve.ensures.items c.self.invariant.0.well;
         fits = omega (arith, c.in_ok-reserve.ensures.len, c.self.invariant.0.fits);

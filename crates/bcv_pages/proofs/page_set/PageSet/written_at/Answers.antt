@@ -19,7 +19,7 @@ written_bytes-requires c =
     let last : c.self.inside.forgotten + length (map writes_of c.self.inside.commits.items) ≡ last_of c.args.self.now = ap last_of c.self.view_is in
     let forgotten : c.self.inside.forgotten ≡ c.args.self.now.forgotten = ap (λ (h : Held). h.forgotten) c.self.view_is in
     let place : c.args.number - 1 - c.self.inside.forgotten < length c.self.inside.commits.items =
-        omega (arith, length-map c.self.inside.commits.items writes_of, c.requires.first, c.requires.there, c.requires.view.kept, c.requires.view.there) in
+    omega (arith, length-map c.self.inside.commits.items writes_of, c.requires.first, c.requires.there, c.requires.view.kept, c.requires.view.there) in
     rw c.items.ensures (commit-ascends c.self.inside.page_size c.self.inside.commits.items (c.args.number - 1 - c.self.inside.forgotten) c.index.result.now c.self.invariant.0.well place c.index.ensures)
 
 pub unreachable-requires : goal.unreachable-requires
@@ -30,10 +30,10 @@ unreachable-requires c =
     let place : ℕ = c.args.number - 1 - c.self.inside.forgotten in
     let count : ℕ = c.args.to - (c.args.number - 1) in
     let inside : place < length c.self.inside.commits.items =
-        omega (arith, length-map c.self.inside.commits.items writes_of, c.requires.first, c.requires.there, c.requires.view.kept, c.requires.view.there) in
+    omega (arith, length-map c.self.inside.commits.items writes_of, c.requires.first, c.requires.there, c.requires.view.kept, c.requires.view.there) in
     let some : 0 < count = omega (arith, c.requires.first, c.requires.there) in
     let is : view_of c.args.self.now (c.args.number - 1) c.args.to ≡ writes_of c.index.result.now ∷ take (count - 1) (drop (place + 1) kept) =
-        rw (← c.self.view_is) (view-from c.self.inside.commits.items place count c.index.result.now inside some c.index.ensures) in
+    rw (← c.self.view_is) (view-from c.self.inside.commits.items place count c.index.result.now inside some c.index.ensures) in
     let writes = first-writes c.args.number (writes_of c.index.result.now) (take (count - 1) (drop (place + 1) kept)) c.args.page (rw is at c.requires.last) in
     let none : written c.index.result.now.pages c.args.page ≡ None = rw c.items.ensures at (sym c.in-None.ensures) in
     let both : is_some {T = Page} None ≡ true = sym (ap is_some none) ∙ writes.0 in
@@ -47,10 +47,10 @@ returns c base_pages =
     let place : ℕ = c.args.number - 1 - c.self.inside.forgotten in
     let count : ℕ = c.args.to - (c.args.number - 1) in
     let inside : place < length c.self.inside.commits.items =
-        omega (arith, length-map c.self.inside.commits.items writes_of, c.requires.first, c.requires.there, c.requires.view.kept, c.requires.view.there) in
+    omega (arith, length-map c.self.inside.commits.items writes_of, c.requires.first, c.requires.there, c.requires.view.kept, c.requires.view.there) in
     let some : 0 < count = omega (arith, c.requires.first, c.requires.there) in
     let is : view_of c.args.self.now (c.args.number - 1) c.args.to ≡ writes_of c.index.result.now ∷ take (count - 1) (drop (place + 1) kept) =
-        rw (← c.self.view_is) (view-from c.self.inside.commits.items place count c.index.result.now inside some c.index.ensures) in
+    rw (← c.self.view_is) (view-from c.self.inside.commits.items place count c.index.result.now inside some c.index.ensures) in
     let enough : c.args.page ≤ pages_kept c.args.page (view_of c.args.self.now (c.args.number - 1) c.args.to) = omega (arith, c.pages_kept.ensures, c.if-pages_kept-page.false) in
     let page : written c.index.result.now.pages c.args.page ≡ Some c.in-Some.bytes.now = rw c.items.ensures at (sym c.in-Some.ensures) in
     rw is (origin-local c.args.number c.args.page base_pages (writes_of c.index.result.now) (take (count - 1) (drop (place + 1) kept)) c.in-Some.bytes.now

@@ -28,6 +28,6 @@ returns c =
     let right = read-at c.index-back.result.now.items level c.index-2.result.now (back level (omega (arith, c.ilog2-level.ensures.power_le))).0 c.index-2.ensures in
     let least = least-over (sizes_of (held_columns columns)) c.args.start c.args.end level c.index-front.result.now.items c.index-back.result.now.items c.ilog2-level.ensures.power_le c.ilog2-level.ensures.next_power_gt (omega (arith, c.requires.some)) front back in
     let value : min (get_or c.index-front.result.now.items level 0) (get_or c.index-back.result.now.items level 0) ≡ c.min.result =
-        sym (c.min.ensures ∙ ap (λ (n : ℕ). min n c.index-2.result.now) left ∙ ap (λ (n : ℕ). min (get_or c.index-front.result.now.items level 0) n) right) in
+    sym (c.min.ensures ∙ ap (λ (n : ℕ). min n c.index-2.result.now) left ∙ ap (λ (n : ℕ). min (get_or c.index-front.result.now.items level 0) n) right) in
     subst (λ (xs : List ℕ). IsLeast xs c.args.start c.args.end c.min.result) (ap (λ (m : Minima). m.sizes) c.self.view_is)
-        (subst (λ (n : ℕ). IsLeast (sizes_of (held_columns columns)) c.args.start c.args.end n) value least)
+    (subst (λ (n : ℕ). IsLeast (sizes_of (held_columns columns)) c.args.start c.args.end n) value least)

@@ -1,5 +1,5 @@
 use Rattle.std.proofs.Common.{◌≡◌, ◌+◌, length}
-use Rattle.bcv_pages.proofs.tests.twelve_commits.Given as goal
+use Rattle.bcv_pages.proofs.tests.forty_commits.Given as goal
 
 abbrev pub invariant-loop-number : goal.invariant-loop-number
 invariant-loop-number l = record {
