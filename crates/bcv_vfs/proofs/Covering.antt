@@ -1,5 +1,5 @@
 -- That the pieces cover the range, and what follows for the place of each.
-use Rattle.std.proofs.Common.{◌≡◌, ℕ, zero, suc, ◌+◌, ◌-◌, ◌*◌, ◌/◌, ◌<◌, ◌≤◌, min, max, true, List, [], ◌∷◌, length, Some, map, nat_lt, refl, sym, ap, ◌∙◌, subst, ⊎_elim, arith, slice_get, take, IsTrue}
+use Rattle.std.proofs.Common.{◌≡◌, ℕ, zero, suc, ◌+◌, ◌-◌, ◌*◌, ◌/◌, ◌<◌, ◌≤◌, min, max, true, List, [], ◌∷◌, length, Some, map, nat_lt, refl, sym, ap, ◌∙◌, subst, ⊎_elim, arith, slice_get, take}
 use Rattle.std.specs.List.{filter, range_with_len, sum_by}
 use Rattle.std.proofs.Math.Nat.{suc-mul, add-mul, mul-le-mul_right, div-mul-le_self, lt-div-mul-add}
 use Rattle.std.proofs.lemmas.Bool.{lt-ltb, le-ltb, cases_lt}
@@ -8,7 +8,7 @@ use Rattle.std.proofs.lemmas.List.Sums.{sum_by-cons}
 use Rattle.bcv_vfs.specs.declared.Span.{Span}
 use Rattle.bcv_vfs.specs.declared.Piece.{Piece}
 use Rattle.bcv_vfs.specs.Pieces.{pieces_of, part_of, page_begin, bytes_there, Cover}
-use Rattle.bcv_vfs.proofs.Parts.{filter_few, page_step, pieces_from, some_bytes}
+use Rattle.bcv_vfs.proofs.Parts.{filter_few, page_step, pieces_from}
 
 -- the pieces of n pages from this one on
 abbrev pub pieces_at : Span → ℕ → ℕ → List Piece
@@ -52,8 +52,7 @@ Cover-pieces span page (suc n) at to end first bytes reach is_at is_to is_end =
 -- the pieces cover the part of the range that is there
 pub Cover-range : (span : Span) → 0 < span.page_size
     → Cover span (span.off / span.page_size + 1) span.off 0 (span.off + bytes_there span) (pieces_of span)
-Cover-range span limits =
-    let bytes = some_bytes span.page_size limits in
+Cover-range span bytes =
     let floor : span.off / span.page_size * span.page_size ≤ span.off = div-mul-le_self span.off span.page_size in
     let reach : span.off < span.off / span.page_size * span.page_size + span.page_size = lt-div-mul-add bytes in
     let first : span.off / span.page_size + 1 - 1 ≡ span.off / span.page_size = omega arith in

@@ -1,8 +1,7 @@
 -- Which pages give a piece, and which piece stands where.
-use Rattle.std.proofs.Common.{◌≡◌, ℕ, zero, suc, ◌+◌, ◌-◌, ◌*◌, ◌/◌, ◌<◌, ◌≤◌, min, max, Bool, true, false, cond, List, ◌∷◌, length, Option, Some, None, map, nat_lt, refl, sym, ap, ◌∙◌, arith, slice_get, IsTrue, IsSome, get_or, ◌↔◌, ⊎_elim}
+use Rattle.std.proofs.Common.{◌≡◌, ℕ, zero, suc, ◌+◌, ◌-◌, ◌*◌, ◌/◌, ◌<◌, ◌≤◌, min, max, Bool, true, false, cond, List, ◌∷◌, length, Option, Some, None, map, nat_lt, refl, sym, ap, ◌∙◌, arith, slice_get, IsSome, get_or, ◌↔◌, ⊎_elim}
 use Rattle.std.specs.List.{filter, range_with_len}
 use Rattle.std.proofs.Math.Nat.{suc-mul, mul-le-mul_right, div-mul-le_self, lt-div-mul-add}
-use Rattle.std.proofs.lemmas.Bool.Decides.{nat_tests}
 use Rattle.std.proofs.lemmas.Bool.{false≢true, lt-ltb, le-ltb}
 use Rattle.std.proofs.lemmas.Option.{none-some, slice_get_cases, slice_get_past, slice_get_within}
 use Rattle.std.proofs.lemmas.List.Sums.{count_by-le-length, length-filter}
