@@ -75,6 +75,10 @@ counted_down slot e = if has_slot slot e then record e { count = e.count - 1 } e
 abbrev pub pin_on : Entry → Pinned
 pin_on e = record { slot = e.slot; id = e.id }
 
+-- the slot has an entry
+abbrev pub IsInUse : ℕ → List Entry → Type 0
+IsInUse slot es = IsSomeAnd (entry_in slot es) (λ _. Unit {0})
+
 -- the slot has an entry, to which one more pin can be given
 abbrev pub IsPinnable : ℕ → List Entry → Type 0
 IsPinnable slot es = IsSomeAnd (entry_in slot es) (λ e. e.count < 4294967295)

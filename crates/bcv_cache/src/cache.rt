@@ -1,6 +1,6 @@
 //! The cache and its calls.
 ghost use Rattle.std.specs.Prelude.{◌≡◌, ℕ, ◌/◌, ◌^◌, ◌<◌, [], true, map, min, IfOk, IfErr, IfSome, IfNone, OnErr, option_map, vec_len};
-ghost use Rattle.bcv_cache.specs.Cache.{slot_of, found_first, has_room, filled, counted_up, counted_down, entry_in, IsPinnable, IsHeld, IsCache, IsSlotOf, KeepsEntries, KeepsPinned, pin_on};
+ghost use Rattle.bcv_cache.specs.Cache.{slot_of, found_first, has_room, filled, counted_up, counted_down, entry_in, IsInUse, IsPinnable, IsHeld, IsCache, IsSlotOf, KeepsEntries, KeepsPinned, pin_on};
 
 use crate::fill::{fill_free, fill_used, last_unpinned};
 use crate::held::Held;
@@ -131,5 +131,13 @@ impl BlockCache {
         ensures cache { IsCache self.now }
     {
         &self.slots[pin.slot.index()].bytes
+    }
+    /// The bytes of the block in a slot that is in use, lent without a pin and without a copy.
+    pub fn lend(&self, slot: Slot) -> &[u8]
+        requires { IsInUse slot self.now.entries }
+        ensures bytes { option_map (λ e. e.bytes) (entry_in slot self.now.entries) ≡ Some result.now }
+        ensures cache { IsCache self.now }
+    {
+        &self.slots[slot.index()].bytes
     }
 }

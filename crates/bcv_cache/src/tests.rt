@@ -142,6 +142,7 @@ fn pin_and_walk(rt: &impl Abort, alloc: Global, most: u16) -> Result<(), Fail> {
     let pin = cache.pin(slot);
     let walked = walk(rt, alloc, &mut cache, &mut rows, most as usize, 9, 1_000);
     assert!(rt; cache.bytes(&pin) == [77, 77].as_slice());
+    assert!(rt; cache.lend(slot) == [77, 77].as_slice());
     cache.unpin(pin);
     assert!(rt; cache.room());
     walked

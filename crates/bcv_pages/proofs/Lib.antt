@@ -1,6 +1,11 @@
 mod Drafts
 mod Finding
+mod Kept
+mod Least
+mod NextLocal
 mod Origins
 mod Places
 mod Ranges
+mod Retained
 mod Sets
+mod Writings

@@ -12,16 +12,16 @@ use Rattle.bcv_base.specs.Image.{Page, written}
 use Rattle.bcv_base.specs.Views.{ascends}
 use Rattle.bcv_pages.specs.Placed.{below, above, number_at, IsAscending, IsAt, IsGap}
 
-take-nil : {X : Type 0} (i : ℕ) → take {A = X} i [] ≡ []
+pub take-nil : {X : Type 0} (i : ℕ) → take {A = X} i [] ≡ []
 take-nil zero = refl
 take-nil (suc i) = refl
 
-drop-nil : {X : Type 0} (i : ℕ) → drop {A = X} i [] ≡ []
+pub drop-nil : {X : Type 0} (i : ℕ) → drop {A = X} i [] ≡ []
 drop-nil zero = refl
 drop-nil (suc i) = refl
 
 -- the front of a list is what passes a test, where the test tells it from the rest
-take-filter : {X : Type 0} (test : X → Bool) (ws : List X) (i : ℕ) (d : X) → i ≤ length ws → ((j : ℕ) → j < i → test (get_or ws j d) ≡ true)
+pub take-filter : {X : Type 0} (test : X → Bool) (ws : List X) (i : ℕ) (d : X) → i ≤ length ws → ((j : ℕ) → j < i → test (get_or ws j d) ≡ true)
     → ((j : ℕ) → i ≤ j → j < length ws → test (get_or ws j d) ≡ false) → take i ws ≡ filter test ws
 take-filter test [] i d inside passes fails = take-nil i
 take-filter test (w ∷ ws) zero d inside passes fails =
@@ -30,7 +30,7 @@ take-filter test (w ∷ ws) (suc i) d inside passes fails =
     rw (passes 0 (omega arith)) (ap (λ xs. w ∷ xs) (take-filter test ws i d (omega arith) (λ j lt. passes (suc j) (omega arith)) (λ j le lt. fails (suc j) (omega arith) (omega arith))))
 
 -- and so is its rest
-drop-filter : {X : Type 0} (test : X → Bool) (ws : List X) (i : ℕ) (d : X) → i ≤ length ws → ((j : ℕ) → j < i → test (get_or ws j d) ≡ false)
+pub drop-filter : {X : Type 0} (test : X → Bool) (ws : List X) (i : ℕ) (d : X) → i ≤ length ws → ((j : ℕ) → j < i → test (get_or ws j d) ≡ false)
     → ((j : ℕ) → i ≤ j → j < length ws → test (get_or ws j d) ≡ true) → drop i ws ≡ filter test ws
 drop-filter test [] i d inside fails passes = drop-nil i
 drop-filter test (w ∷ ws) zero d inside fails passes =

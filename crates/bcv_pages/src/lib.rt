@@ -6,8 +6,11 @@
 //! it builds no image. A `WriteTxn` promises that what it ends as is the commit of the writes that stand.
 #![tactic(auto)]
 
+mod fronts;
+mod page_index;
 mod page_set;
 mod search;
+mod size_minima;
 #[cfg(test)]
 mod tests;
 mod write_txn;

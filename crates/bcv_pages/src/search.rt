@@ -26,47 +26,13 @@ pub(crate) fn place(pages: &[(u32, Seq<u8>)], page: u32) -> Result<usize, usize>
 }
 
 // The bytes that are written under a number.
-fn written_bytes(pages: &[(u32, Seq<u8>)], page: u32) -> Option<&[u8]>
+pub(crate) fn written_bytes(pages: &[(u32, Seq<u8>)], page: u32) -> Option<&[u8]>
     requires { IsAscending pages.now }
     ensures { option_copied result ≡ written pages.now page }
 {
     match place(pages, page) {
         Ok(at) => Some(pages[at].1.items()),
         Err(_) => None,
-    }
-}
-
-// Where a page of a view comes from, by the last commit that says so.
-pub(crate) fn origin_of<'a>(commits: &'a [Commit], base_pages: u32, page: u32) -> PageAt<'a>
-    requires { all_ascend (map writes_of commits.now) ≡ true }
-    ensures { shown result ≡ origin base_pages (map writes_of commits.now) page }
-{
-    let mut rest = commits;
-    while let Some((commit, before)) = rest.split_last() {
-        if commit.size < page {
-            return PageAt::Zeros;
-        }
-        if let Some(bytes) = written_bytes(commit.pages.items(), page) {
-            return PageAt::Local(bytes);
-        }
-        rest = before;
-    }
-    if page <= base_pages {
-        PageAt::Base
-    } else {
-        PageAt::Zeros
-    }
-}
-
-// Whether a page of a view is local.
-fn is_local(commits: &[Commit], base_pages: u32, page: u32) -> bool
-    requires { all_ascend (map writes_of commits.now) ≡ true }
-    ensures { result ≡ not (is_base base_pages (map writes_of commits.now) page) }
-{
-    match origin_of(commits, base_pages, page) {
-        PageAt::Local(_) => true,
-        PageAt::Zeros => true,
-        PageAt::Base => false,
     }
 }
 
@@ -78,21 +44,4 @@ pub(crate) fn size_of(commits: &[Commit], base_pages: u32) -> u32
         Some((commit, _)) => commit.size,
         None => base_pages,
     }
-}
-
-// Whether a block of `per_block` pages holds a local page of the view.
-pub(crate) fn holds_local(commits: &[Commit], base_pages: u32, per_block: u32, block: u32) -> bool
-    requires ascend { all_ascend (map writes_of commits.now) ≡ true }
-    requires start { block * per_block ≤ view_size base_pages (map writes_of commits.now) }
-    ensures { result ≡ has_local per_block base_pages (map writes_of commits.now) block }
-{
-    let size = size_of(commits, base_pages);
-    let first = block * per_block;
-    let left = size - first;
-    for index in 0..per_block.min(left) {
-        if is_local(commits, base_pages, first + index + 1) {
-            return true;
-        }
-    }
-    false
 }

@@ -1,5 +1,5 @@
 -- That the pieces cover the range, and what follows for the place of each.
-use Rattle.std.proofs.Common.{◌≡◌, ℕ, zero, suc, ◌+◌, ◌-◌, ◌*◌, ◌/◌, ◌<◌, ◌≤◌, min, max, true, List, [], ◌∷◌, length, Some, map, nat_lt, refl, sym, ap, ◌∙◌, subst, ⊎_elim, arith, slice_get, take, IsTrue}
+use Rattle.std.proofs.Common.{◌≡◌, ℕ, zero, suc, ◌+◌, ◌-◌, ◌*◌, ◌/◌, ◌<◌, ◌≤◌, min, max, true, List, [], ◌∷◌, length, Some, map, nat_lt, refl, sym, ap, ◌∙◌, subst, ⊎_elim, arith, slice_get, take}
 use Rattle.std.specs.List.{filter, range_with_len, sum_by}
 use Rattle.std.proofs.Math.Nat.{suc-mul, add-mul, mul-le-mul_right, div-mul-le_self, lt-div-mul-add}
 use Rattle.std.proofs.lemmas.Bool.{lt-ltb, le-ltb, cases_lt}
@@ -7,9 +7,8 @@ use Rattle.std.proofs.lemmas.List.{nil_from_length}
 use Rattle.std.proofs.lemmas.List.Sums.{sum_by-cons}
 use Rattle.bcv_vfs.specs.declared.Span.{Span}
 use Rattle.bcv_vfs.specs.declared.Piece.{Piece}
-use Rattle.bcv_vfs.specs.Limits.{is_page_size}
 use Rattle.bcv_vfs.specs.Pieces.{pieces_of, part_of, page_begin, bytes_there, Cover}
-use Rattle.bcv_vfs.proofs.Parts.{filter_few, page_step, pieces_from, some_bytes}
+use Rattle.bcv_vfs.proofs.Parts.{filter_few, page_step, pieces_from}
 
 -- the pieces of n pages from this one on
 abbrev pub pieces_at : Span → ℕ → ℕ → List Piece
@@ -51,10 +50,9 @@ Cover-pieces span page (suc n) at to end first bytes reach is_at is_to is_end =
     (cases_lt (max span.off (page_begin span page)) (span.off + span.len))
 
 -- the pieces cover the part of the range that is there
-pub Cover-range : (span : Span) → IsTrue (is_page_size span.page_size)
+pub Cover-range : (span : Span) → 0 < span.page_size
     → Cover span (span.off / span.page_size + 1) span.off 0 (span.off + bytes_there span) (pieces_of span)
-Cover-range span limits =
-    let bytes = some_bytes span.page_size limits in
+Cover-range span bytes =
     let floor : span.off / span.page_size * span.page_size ≤ span.off = div-mul-le_self span.off span.page_size in
     let reach : span.off < span.off / span.page_size * span.page_size + span.page_size = lt-div-mul-add bytes in
     let first : span.off / span.page_size + 1 - 1 ≡ span.off / span.page_size = omega arith in
@@ -104,14 +102,14 @@ lands-Cover span page at to end (first ∷ pieces) (suc i) piece covers is =
     omega arith
 
 -- the pieces have as many bytes as there are
-pub sum_by-pieces_of : (span : Span) → IsTrue (is_page_size span.page_size)
+pub sum_by-pieces_of : (span : Span) → 0 < span.page_size
     → sum_by (λ piece. piece.len) (pieces_of span) ≡ bytes_there span
 sum_by-pieces_of span limits =
     let all = sum_by-Cover span _ _ _ _ _ (Cover-range span limits) in
     omega arith
 
 -- the i-th piece lands where the bytes of the i before it end
-pub lands-pieces_of : (span : Span) (i : ℕ) (piece : Piece) → IsTrue (is_page_size span.page_size)
+pub lands-pieces_of : (span : Span) (i : ℕ) (piece : Piece) → 0 < span.page_size
     → Some piece ≡ slice_get (pieces_of span) i → piece.to ≡ sum_by (λ left. left.len) (take i (pieces_of span))
 lands-pieces_of span i piece limits is =
     let lands = lands-Cover span _ _ _ _ _ i piece (Cover-range span limits) (sym is) in

@@ -1,20 +1,14 @@
 -- Which pages give a piece, and which piece stands where.
-use Rattle.std.proofs.Common.{◌≡◌, ℕ, zero, suc, ◌+◌, ◌-◌, ◌*◌, ◌/◌, ◌<◌, ◌≤◌, min, max, Bool, true, false, cond, List, ◌∷◌, length, Option, Some, None, map, nat_lt, refl, sym, ap, ◌∙◌, arith, slice_get, IsTrue, IsSome, get_or, ◌↔◌, ⊎_elim}
+use Rattle.std.proofs.Common.{◌≡◌, ℕ, zero, suc, ◌+◌, ◌-◌, ◌*◌, ◌/◌, ◌<◌, ◌≤◌, min, max, Bool, true, false, cond, List, ◌∷◌, length, Option, Some, None, map, nat_lt, refl, sym, ap, ◌∙◌, arith, slice_get, IsSome, get_or, ◌↔◌, ⊎_elim}
 use Rattle.std.specs.List.{filter, range_with_len}
 use Rattle.std.proofs.Math.Nat.{suc-mul, mul-le-mul_right, div-mul-le_self, lt-div-mul-add}
-use Rattle.std.proofs.lemmas.Bool.Decides.{nat_tests}
 use Rattle.std.proofs.lemmas.Bool.{false≢true, lt-ltb, le-ltb}
 use Rattle.std.proofs.lemmas.Option.{none-some, slice_get_cases, slice_get_past, slice_get_within}
 use Rattle.std.proofs.lemmas.List.Sums.{count_by-le-length, length-filter}
 use Rattle.std.proofs.lemmas.List.FromFn.{length-map-range_with_len}
 use Rattle.bcv_vfs.specs.declared.Span.{Span}
 use Rattle.bcv_vfs.specs.declared.Piece.{Piece}
-use Rattle.bcv_vfs.specs.Limits.{is_page_size}
 use Rattle.bcv_vfs.specs.Pieces.{pieces_of, part_of}
-
--- a page has bytes
-pub some_bytes : (size : ℕ) → IsTrue (is_page_size size) → 0 < size
-some_bytes size h = grind (arith, nat_tests)
 
 -- where the elements in front fail, a filter begins after them
 filter_skips : {X : Type 0} (test : X → Bool) (f : ℕ → X) (a skipped n m b : ℕ) → skipped + n ≡ m → a + skipped ≡ b
@@ -121,13 +115,12 @@ same_piece : (page start len to page' start' len' to' : ℕ) → page ≡ page' 
 same_piece page start len to page' start' len' to' a b c d = cc
 
 -- the i-th piece in the numbers that a body computes
-pub piece_found : (span : Span) (i size before begin end page start len to : ℕ) → IsTrue (is_page_size span.page_size) → size ≡ span.page_size
+pub piece_found : (span : Span) (i size before begin end page start len to : ℕ) → 0 < span.page_size → size ≡ span.page_size
     → before ≡ span.off / span.page_size + i → before < span.pages
     → begin ≡ max (before * size) span.off → end ≡ min (before * size + size) (span.off + span.len) → begin < end
     → page ≡ before + 1 → start ≡ begin - before * size → len ≡ end - begin → to ≡ begin - span.off
     → ◌≡◌ {A = Option Piece} (Some record { page = page; start = start; len = len; to = to }) (slice_get (pieces_of span) i)
-piece_found span i size before begin end page start len to limits same at within is_begin is_end some is_page is_start is_len is_to =
-    let bytes = some_bytes span.page_size limits in
+piece_found span i size before begin end page start len to bytes same at within is_begin is_end some is_page is_start is_len is_to =
     let place : before * size ≡ before * span.page_size = ap (λ s. before * s) same in
     let number : before + 1 - 1 ≡ before = omega arith in
     let begins : (before + 1 - 1) * span.page_size ≡ before * size = ap (λ k. k * span.page_size) number ∙ sym place in
@@ -136,12 +129,11 @@ piece_found span i size before begin end page start len to limits same at within
     ∙ sym (piece_here span i before bytes at within (omega arith))
 
 -- that there is none, in the same numbers
-pub piece_missing : (span : Span) (i size before begin end : ℕ) → IsTrue (is_page_size span.page_size) → size ≡ span.page_size
+pub piece_missing : (span : Span) (i size before begin end : ℕ) → 0 < span.page_size → size ≡ span.page_size
     → before ≡ span.off / span.page_size + i
     → begin ≡ max (before * size) span.off → end ≡ min (before * size + size) (span.off + span.len) → end ≤ begin
     → None ≡ slice_get (pieces_of span) i
-piece_missing span i size before begin end limits same at is_begin is_end ended =
-    let bytes = some_bytes span.page_size limits in
+piece_missing span i size before begin end bytes same at is_begin is_end ended =
     let place : before * size ≡ before * span.page_size = ap (λ s. before * s) same in
     let reach : span.off / span.page_size * span.page_size ≤ before * span.page_size = mul-le-mul_right span.page_size (omega arith) in
     let begins : span.off < span.off / span.page_size * span.page_size + span.page_size = lt-div-mul-add bytes in

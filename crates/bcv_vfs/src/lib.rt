@@ -7,9 +7,8 @@
 //! takes no memory, reads nothing and stands on std alone.
 #![tactic(auto)]
 
-ghost use Rattle.std.specs.Prelude.{◌≡◌, ◌+◌, ◌/◌, ◌^◌, ◌<◌, ◌≤◌, ◌↔◌, List, ℕ, IsTrue, IsSome, IfSome, SomeIff, length, slice_get, take};
+ghost use Rattle.std.specs.Prelude.{◌≡◌, ◌+◌, ◌/◌, ◌^◌, ◌<◌, ◌≤◌, ◌↔◌, List, ℕ, IsSome, IfSome, SomeIff, length, slice_get, take};
 ghost use Rattle.std.specs.List.{sum_by, flat_map};
-ghost use Rattle.bcv_vfs.specs.Limits.{is_page_size};
 ghost use Rattle.bcv_vfs.specs.Pieces.{Cover, IsWithin, bytes_there, file_len, pieces_of};
 ghost use Rattle.bcv_vfs.specs.Reading.{IsFileOf, bytes_at, range_of};
 
@@ -43,7 +42,7 @@ impl Span {
     /// The length of the file.
     pub fn bytes(&self) -> u64
         ensures exact { result ≡ file_len self.now }
-        ensures below { IsTrue (is_page_size self.now.page_size) → result < 2 ^ 48 }
+        ensures below { self.now.page_size ≤ 65536 → result < 2 ^ 48 }
     {
         u64::from(self.pages) * u64::from(self.page_size)
     }
@@ -61,14 +60,14 @@ impl Span {
 
     /// The piece with `i` pieces to its left, so the first is piece 0.
     pub fn piece(&self, i: u32) -> Option<Piece>
-        requires { IsTrue (is_page_size self.now.page_size) }
+        requires { 0 < self.now.page_size }
         ensures exact { result ≡ slice_get (pieces_of self.now) i }
         ensures found { IsSome result ↔ (i < length (pieces_of self.now)) }
         ensures within { IfSome result (IsWithin self.now) }
         ensures lands { IfSome result (λ piece. piece.to ≡ sum_by (λ left. left.len) (take i (pieces_of self.now))) }
     {
         let page_size = u64::from(self.page_size);
-        let before = self.off / page_size + u64::from(i);
+        let before = (self.off / page_size).saturating_add(u64::from(i));
         if before >= u64::from(self.pages) {
             return None;
         }
@@ -88,7 +87,7 @@ impl Span {
 
     /// That the pieces are the range. It does nothing: a proof that needs the law makes the call.
     pub fn pieces_are_the_range(&self)
-        requires { IsTrue (is_page_size self.now.page_size) }
+        requires { 0 < self.now.page_size }
         ensures covers { Cover self.now (self.now.off / self.now.page_size + 1) self.now.off 0
             (self.now.off + bytes_there self.now) (pieces_of self.now) }
         ensures few { length (pieces_of self.now) ≤ self.now.pages }
@@ -116,7 +115,7 @@ mod tests {
 
     /// The pieces are given as page, start, length and place.
     fn check(rt: &impl Abort, span: Span, short: Option<u32>, pieces: &[(u32, u32, u32, u32)])
-        requires sizes { IsTrue (is_page_size span.page_size) }
+        requires sizes { 0 < span.page_size }
         requires few { length pieces.now < 10 }
     {
         assert_eq!(rt; span.short(), short, "{span:?}");

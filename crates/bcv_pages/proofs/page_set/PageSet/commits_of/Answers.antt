@@ -10,7 +10,7 @@ returns-clause-view c =
     rw (c.deref.ensures.value, ← c.self.view_is) (part-view c.self.inside.commits.items _ _ _ many)
 
 pub returns-clause-well : goal.returns-clause-well
-returns-clause-well c = rw (c.deref.ensures.value, ← c.self.view_is) (part-well _ c.self.inside.commits.items _ _ c.self.invariant.well)
+returns-clause-well c = rw (c.deref.ensures.value, ← c.self.view_is) (part-well _ c.self.inside.commits.items _ _ c.self.invariant.0.well)
 
 pub returns-clause-ascend : goal.returns-clause-ascend
-returns-clause-ascend c = rw c.deref.ensures.value (part-ascends _ c.self.inside.commits.items _ _ c.self.invariant.well)
+returns-clause-ascend c = rw c.deref.ensures.value (part-ascends _ c.self.inside.commits.items _ _ c.self.invariant.0.well)

@@ -1,17 +1,35 @@
-use Rattle.std.proofs.Common.{◌≡◌, ℕ, ◌+◌, ◌-◌, Vec, Global, min, length, List, sym, ◌∙◌, ap, subst, arith}
+use Rattle.std.proofs.Common.{◌≡◌, ℕ, ◌+◌, ◌-◌, Vec, Global, min, length, List, map, drop, nat_lt, sym, ◌∙◌, ap, subst, arith}
 use Rattle.std.specs.Option.{option_map}
 use Rattle.bcv_model.specs.declared.ask.Commit.{Commit}
 use Rattle.bcv_pages.specs.Held.{Held, KeepsView, held_of, without_upto}
-use Rattle.bcv_pages.proofs.Sets.{drop-well, forgot-is, views-after}
+use Rattle.bcv_model.specs.Commits.{writes_of}
+use Rattle.std.specs.List.{filter}
+use Rattle.bcv_pages.specs.Index.{are_rising}
+use Rattle.bcv_pages.specs.Minima.{Minima}
+use Rattle.bcv_pages.proofs.Writings.{writing-rises}
+use Rattle.bcv_pages.proofs.Sets.{drop-well, forgot-is, views-after, pages-forgot, sizes-forgot, ready-after}
 use Rattle.bcv_pages.proofs.page_set.PageSet.forget.Goals as goal
 
+pub forget-requires : goal.forget-requires
+forget-requires c p = subst are_rising (sym (c.self.invariant.1.pages p)) (writing-rises (c.self.inside.forgotten + 1) (map writes_of c.self.inside.commits.items) p)
+
 pub invariant_of-self : goal.invariant_of-self
-invariant_of-self c = record {
-  well = rw c.drop_first.ensures.items (drop-well c.self.inside.page_size c.self.inside.commits.items c.min-count.result c.self.invariant.well);
-  fits = omega (arith, c.self.invariant.fits);
-  room = λ ready. omega (arith, c.self.invariant.room ready);
-  next = λ ready. omega (arith, c.self.invariant.next ready);
-}
+invariant_of-self c =
+    let items : List Commit = c.self.inside.commits.items in
+    let count : ℕ = c.min-count.result in
+    let dropped : c.drop_first-2.new.self.sizes ≡ drop count c.self.inside.minima.sizes = ap (λ (m : Minima). m.sizes) c.drop_first-2.ensures in (
+      record {
+        well = rw c.drop_first.ensures.items (drop-well c.self.inside.page_size items count c.self.invariant.0.well);
+        fits = omega (arith, c.self.invariant.0.fits);
+        room = λ ready. omega (arith, c.self.invariant.0.room ready);
+        next = λ ready. omega (arith, c.self.invariant.0.next ready);
+      },
+      record {
+        pages = λ p. rw c.drop_first.ensures.items (c.forget.ensures.listed p ∙ ap (filter (nat_lt (c.self.inside.forgotten + count))) (c.self.invariant.1.pages p) ∙ pages-forgot c.self.inside.forgotten count items p);
+        least = rw c.drop_first.ensures.items (dropped ∙ ap (drop count) c.self.invariant.1.least ∙ sizes-forgot count items);
+        ready = ready-after c.self.inside.index.lists c.forget.new.self.lists c.self.inside.minima.ready c.drop_first-2.new.self.ready _ c.ready_pages.result.now c.ready_pages.ensures (ap (λ (m : Minima). m.ready) c.drop_first-2.ensures) c.forget.ensures.room c.self.invariant.1.ready;
+      },
+    )
 
 pub returns-clause-forgot : goal.returns-clause-forgot
 returns-clause-forgot c =
