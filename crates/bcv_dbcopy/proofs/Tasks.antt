@@ -222,7 +222,6 @@ block_at s e l block ids t still not_ready longer are_ids =
         read = (record { block = p.block; rules = p.rules; limits = p.limits; asked = p.asked; fills = fills_more p.asked e ids longer.all p.fills; passes = p.passes }, unrefused u.read.1 more);
       };
     }
-
   where
     -- a block is put only where nothing was refused
     unrefused : PutBefore (with_parts s (edit.New e) (Some l) (Some block)) block → length e.blocks < blocks_needed block e.page_size e.pages

@@ -19,21 +19,15 @@ impl CopyTask {
     pub fn put<S: Store>(&mut self, alloc: Global, store: &mut S, moment: u64) -> PutEnd
         requires running { IsRunning self.old }
         requires ready { is_ready self.old ≡ true }
-        ensures leaves {
-            MatchOption self.old.publish.latest ⊥ (λ read. PutLeaves moment self.old read result self.new)
-        }
-        ensures puts {
+        ensures leaves { MatchOption self.old.publish.latest ⊥ (λ read. PutLeaves moment self.old read result self.new) }
+        ensures puts { MatchOption self.old.publish.latest ⊥ (λ read.
+            ManifestPuts S.told (S.shown store.old) (S.shown store.new)
+            self.old.publish read self.old.edit moment result self.new.publish) }
+        ensures sound { OverSoundLog S.told (S.shown store.old) (S.shown store.new) (λ mine.
             MatchOption self.old.publish.latest ⊥ (λ read.
-                ManifestPuts S.told (S.shown store.old) (S.shown store.new)
-                    self.old.publish read self.old.edit moment result self.new.publish)
-        }
-        ensures sound {
-            OverSoundLog S.told (S.shown store.old) (S.shown store.new) (λ mine.
-                MatchOption self.old.publish.latest ⊥ (λ read.
-                    MayPut mine (S.shown store.old).log self.old read →
-                    ManifestPutSound S.told mine (S.shown store.old) (S.shown store.new)
-                        self.old.publish read self.old.edit moment result self.new.publish))
-        }
+            MayPut mine (S.shown store.old).log self.old read →
+            ManifestPutSound S.told mine (S.shown store.old) (S.shown store.new)
+            self.old.publish read self.old.edit moment result self.new.publish)) }
         ensures reached { S.reaches store.old store.new }
         ensures left { result ≡ PutEnd.Refused → left_of self.new ≡ 2 }
         ensures running { result ≡ PutEnd.Refused → IsRunning self.new }

@@ -33,10 +33,8 @@ impl CopyTask {
         requires running { IsRunning self.old }
         requires not_ready { is_ready self.old ≡ false }
         ensures leaves { WorkLeaves self.old.publish.latest seen.now self.old result self.new }
-        ensures works {
-            TaskWorks S.told (S.shown store.old) (S.shown store.new) (N.shown names.old) (N.shown names.new)
-                seen.now self.old result self.new
-        }
+        ensures works { TaskWorks S.told (S.shown store.old) (S.shown store.new) (N.shown names.old) (N.shown names.new)
+            seen.now self.old result self.new }
         ensures reached { S.reaches store.old store.new }
         ensures running { IsRunning self.new }
     {
@@ -52,10 +50,8 @@ impl CopyTask {
         requires running { self.old.published ≡ false }
         requires none { is_none self.old.publish.latest ≡ true }
         ensures leaves { WorkLeaves self.old.publish.latest seen.now self.old result self.new }
-        ensures gets {
-            ManifestGets S.told (S.shown store.old) (S.shown store.new)
-                seen.now self.old.edit self.old.publish result self.new.publish
-        }
+        ensures gets { ManifestGets S.told (S.shown store.old) (S.shown store.new)
+            seen.now self.old.edit self.old.publish result self.new.publish }
         ensures reached { S.reaches store.old store.new }
         ensures task { IsTask self.new }
     {
@@ -70,11 +66,9 @@ impl CopyTask {
         requires kept { is_none self.old.publish.latest ≡ false }
         requires not_ready { is_ready self.old ≡ false }
         ensures leaves { (seen : Seen) → WorkLeaves self.old.publish.latest seen self.old result self.new }
-        ensures works {
-            (seen : Seen) →
+        ensures works { (seen : Seen) →
             TaskWorks S.told (S.shown store.old) (S.shown store.new) (N.shown names.old) (N.shown names.new)
-                seen self.old result self.new
-        }
+            seen self.old result self.new }
         ensures reached { S.reaches store.old store.new }
         ensures task { IsTask self.new }
         ensures rest { self.new ≡ record self.old { edit = self.new.edit } }
@@ -111,11 +105,9 @@ fn put_next<S: Store, N: Names>(
     requires size { 512 ≤ entry.old.page_size }
     requires few { length entry.old.blocks < 65536 }
     requires pages { AllByRecursion (λ (p : Page). length p ≡ entry.old.page_size) pages.now }
-    ensures puts {
-        BlockPuts S.told (S.shown store.old) (S.shown store.new) (N.shown names.old) (N.shown names.new)
-            (block_text block entry.old.page_size pages.now (length entry.old.blocks))
-            entry.old.blocks result entry.new.blocks
-    }
+    ensures puts { BlockPuts S.told (S.shown store.old) (S.shown store.new) (N.shown names.old) (N.shown names.new)
+        (block_text block entry.old.page_size pages.now (length entry.old.blocks))
+        entry.old.blocks result entry.new.blocks }
     ensures rest { entry.new ≡ record entry.old { blocks = entry.new.blocks } }
     ensures ids { AllByRecursion IsId entry.old.blocks → AllByRecursion IsId entry.new.blocks }
     ensures reached { S.reaches store.old store.new }

@@ -23,15 +23,15 @@ use Rattle.bcv_disk.specs.declared.platter.Act.TheVariants.{Wrote, CutTo, Synced
 
 raised-least : (count : ℕ) → count ≤ raised count
 raised-least count = elim (cases_lt count (2 ^ 64 - 1)) [
-    | inl less ↦ omega (arith, ap (λ (b : Bool). if b then count + 1 else count) (lt-ltb count (2 ^ 64 - 1) less))
-    | inr most ↦ omega (arith, ap (λ (b : Bool). if b then count + 1 else count) (le-ltb count (2 ^ 64 - 1) most))
-  ]
+  | inl less ↦ omega (arith, ap (λ (b : Bool). if b then count + 1 else count) (lt-ltb count (2 ^ 64 - 1) less))
+  | inr most ↦ omega (arith, ap (λ (b : Bool). if b then count + 1 else count) (le-ltb count (2 ^ 64 - 1) most))
+]
 
 raised-rose : (count : ℕ) → Rose count (raised count)
 raised-rose count = elim (cases_lt count (2 ^ 64 - 1)) [
-    | inl less ↦ omega (arith, ap (λ (b : Bool). if b then count + 1 else count) (lt-ltb count (2 ^ 64 - 1) less))
-    | inr most ↦ omega (arith, most, ap (λ (b : Bool). if b then count + 1 else count) (le-ltb count (2 ^ 64 - 1) most))
-  ]
+  | inl less ↦ omega (arith, ap (λ (b : Bool). if b then count + 1 else count) (lt-ltb count (2 ^ 64 - 1) less))
+  | inr most ↦ omega (arith, most, ap (λ (b : Bool). if b then count + 1 else count) (le-ltb count (2 ^ 64 - 1) most))
+]
 
 module _ (t u : Trouble) (f g : ℕ) where
   -- only crashes that found nothing to tear went by
@@ -187,8 +187,10 @@ fuse_less (Some (suc left, n)) calls image is = (suc left, (λ i. Some (suc left
     parts : Option (ℕ × ℕ) → ℕ × ℕ
     parts None = (0, 0)
     parts (Some p) = p
+
     same : n ≡ image
     same = ap (λ (o : Option (ℕ × ℕ)). (parts o).1) is
+
     fewer : left ≡ calls
     fewer = ap (λ (o : Option (ℕ × ℕ)). (parts o).0) is
 
@@ -200,6 +202,7 @@ failure_less (Some (suc left)) calls is = (suc left, refl, omega (arith, fewer))
     part : Option ℕ → ℕ
     part None = 0
     part (Some n) = n
+
     fewer : left ≡ calls
     fewer = ap part is
 

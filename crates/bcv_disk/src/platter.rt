@@ -122,7 +122,13 @@ impl Platter {
             raise(&mut self.idle);
             return;
         }
-        leave_image(&mut self.bytes, &self.acts, &mut self.saved, image, &mut self.spare);
+        leave_image(
+            &mut self.bytes,
+            &self.acts,
+            &mut self.saved,
+            image,
+            &mut self.spare,
+        );
         self.saved.clear();
         note(&mut self.acts, Act::Crashed(self.idle, image));
         self.idle = 0;

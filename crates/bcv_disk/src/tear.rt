@@ -8,7 +8,13 @@ use crate::platter::{Act, overwrite};
 use bcv_base::Seq;
 
 /// Leaves the image of this number in the place of the bytes.
-pub fn leave_image(bytes: &mut Vec<u8>, acts: &[Act], saved: &mut Vec<Seq<u8>>, image: u8, spare: &mut Vec<u8>)
+pub fn leave_image(
+    bytes: &mut Vec<u8>,
+    acts: &[Act],
+    saved: &mut Vec<Seq<u8>>,
+    image: u8,
+    spare: &mut Vec<u8>,
+)
     requires holds { HoldsRecord bytes.old.items (reverse acts.now) (reverse saved.old.items) }
     requires room { greatest (reverse acts.now) ≤ vec_capacity bytes.old }
     requires spare_room { greatest (reverse acts.now) ≤ vec_capacity spare.old }

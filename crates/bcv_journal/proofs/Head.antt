@@ -16,5 +16,5 @@ start-front bytes start second long =
     let at = field_of second in
     let whole : start ≡ at + (start - at) = omega (arith, field-least second, long) in
     ap (λ (l : List ℕ). from_be_bytes w32 l) (
-      ap (λ (n : ℕ). take 4 (drop at (take n bytes))) whole ∙ ap (λ (l : List ℕ). take 4 l) (drop-take at (start - at) bytes) ∙ take-take 4 (start - at) (drop at bytes) (omega (arith, field-least second, long))
+    ap (λ (n : ℕ). take 4 (drop at (take n bytes))) whole ∙ ap (λ (l : List ℕ). take 4 l) (drop-take at (start - at) bytes) ∙ take-take 4 (start - at) (drop at bytes) (omega (arith, field-least second, long))
     )

@@ -135,10 +135,10 @@ module _ (told : DiskTold) (old new : DiskShown) (into filled : List ℕ) (only_
     pub long_done : (result : Outcome) → IfOk result (λ v. IsRead filled v.1 (items_of v.0.items)) → IfErr result (IsReadFault filled) → PartLoads told old new 1 result
     long_done (Ok v) read fault = record {
       gives = λ t only. (
-          inr (omega (arith, ap length (filled_is t), short), spelled_by filled old.seen (items_of v.0.items) (sym (filled_is t)) read.spelled),
-          settled_by filled new v.1 (items_of v.0.items) (same t) short read (subst (λ (l : List ℕ). Only l new.may_leave) (sym (r.seen t refl)) (leaves t only)),
-          r.seen t refl ∙ sym (found-long old.seen (omega (arith, ap length (filled_is t), long))),
-        );
+        inr (omega (arith, ap length (filled_is t), short), spelled_by filled old.seen (items_of v.0.items) (sym (filled_is t)) read.spelled),
+        settled_by filled new v.1 (items_of v.0.items) (same t) short read (subst (λ (l : List ℕ). Only l new.may_leave) (sym (r.seen t refl)) (leaves t only)),
+        r.seen t refl ∙ sym (found-long old.seen (omega (arith, ap length (filled_is t), long))),
+      );
       area = read_area filled v.1 (items_of v.0.items) short read;
       any_moment = λ t only. after_reading old (only_now t) new (r.crash t);
       fails = DiskFails-as told old new (λ no_fault. absurd no_fault) (λ failed. absurd (cc failed)) r.fails;

@@ -37,7 +37,11 @@ fn load_short<D: Disk>(alloc: Global, disk: &mut D) -> Result<(Vec<Vec<u8>>, Are
 
 /// The items of a file of this length.
 
-fn load_long<D: Disk>(alloc: Global, disk: &mut D, size: u64) -> Result<(Vec<Vec<u8>>, Area), JournalFault>
+fn load_long<D: Disk>(
+    alloc: Global,
+    disk: &mut D,
+    size: u64,
+) -> Result<(Vec<Vec<u8>>, Area), JournalFault>
     requires long { 18 < size }
     requires short { size ≤ 2 ^ 31 }
     requires length { D.told.tells → size ≡ length (D.shown disk.old).seen }
@@ -82,7 +86,10 @@ fn synced_len<D: Disk>(disk: &mut D) -> Option<u64>
 
 /// The items of a disk's file, and where they stand. A file of at most 18 bytes becomes an empty journal.
 
-pub fn load_items<D: Disk>(alloc: Global, disk: &mut D) -> Result<(Vec<Vec<u8>>, Area), JournalFault>
+pub fn load_items<D: Disk>(
+    alloc: Global,
+    disk: &mut D,
+) -> Result<(Vec<Vec<u8>>, Area), JournalFault>
     ensures { ItemsLoad D.told (D.shown disk.old) (D.shown disk.new) (load_calls (D.shown disk.old).seen) result }
 {
     let Some(size) = synced_len(disk) else {

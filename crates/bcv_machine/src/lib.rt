@@ -13,7 +13,8 @@ pub use laws::{
     commits_leave_only_told, images_stay, one_state_follows, publications_are_single,
     versions_only_grow,
 };
-pub use runs::{cleanup_after_the_retention, crash_around_a_publication, 
-    contention_over_copies, crash_around_a_commit, lost_answer_is_resolved, pins_fill_the_cache,
+pub use runs::{
+    cleanup_after_the_retention, contention_over_copies, crash_around_a_commit,
+    crash_around_a_publication, lost_answer_is_resolved, pins_fill_the_cache,
     second_upload_conflicts,
 };

@@ -11,7 +11,7 @@ loop-rest-init c =
     let bytes = c.args.bytes.now.items in
     let copied : c.extend_from_slice.new.self.items ≡ bytes = c.in-Ok.ensures.items ∙ (λ i. c.requires.empty i ++ c.deref.ensures.value i) in (
       IsRedone-rest acts (drop c.args.first acts) bytes c.args.image c.extend_from_slice.new.self.items (length acts - c.args.first) (omega (arith, length-drop c.args.first acts))
-      (subst (λ (l : List ℕ). IsRedone acts (drop c.args.first acts) bytes c.args.image l) (sym copied) (redo_start acts c.args.first bytes c.args.image c.requires.undone)),
+          (subst (λ (l : List ℕ). IsRedone acts (drop c.args.first acts) bytes c.args.image l) (sym copied) (redo_start acts c.args.first bytes c.args.image c.requires.undone)),
       omega arith,
     )
 
