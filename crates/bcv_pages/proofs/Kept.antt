@@ -1,7 +1,7 @@
 -- The pages that every image of a view has, and where a page comes from.
-use Rattle.std.proofs.Common.{◌≡◌, ℕ, zero, suc, ◌+◌, ◌-◌, ◌<◌, ◌≤◌, ◌≢◌, Bool, true, false, nat_lt, nat_le, cond, ◌&&◌, min, List, [], ◌∷◌, ◌++◌, map, length, take, drop, get_or, Option, Some, None, unwrap_or, option_map, is_some, is_none, inl, inr, refl, sym, ◌∙◌, ap, subst, arith, le_antisymm, length-drop, slice_get, le_refl}
+use Rattle.std.proofs.Common.{◌≡◌, ℕ, zero, suc, ◌+◌, ◌-◌, ◌<◌, ◌≤◌, ◌≢◌, Bool, true, false, nat_le, cond, ◌&&◌, min, List, [], ◌∷◌, ◌++◌, map, length, take, drop, get_or, Option, Some, None, is_some, is_none, refl, sym, ◌∙◌, ap, subst, arith, le_antisymm, length-drop, slice_get, le_refl}
 use Rattle.std.specs.List.{list_all, fold}
-use Rattle.std.proofs.lemmas.Bool.{cases_lt, and_parts}
+use Rattle.std.proofs.lemmas.Bool.{and_parts}
 use Rattle.std.proofs.lemmas.Bool.Decides.{nat_tests}
 use Rattle.std.proofs.lemmas.List.{take-append-drop, get_or-take, get_or-drop, take-map, drop-map, length-take, drop_more, drop-drop, take_all, take_more, drop-take, get_or-map, length-map}
 use Rattle.std.proofs.lemmas.List.Sums.{fold-append}
@@ -10,7 +10,7 @@ use Rattle.bcv_base.specs.Image.{Page, Writes, written, leaves_page, is_base}
 use Rattle.bcv_base.specs.Views.{Origin, FromBase, Added, Wrote, origin_after, origin}
 use Rattle.bcv_model.specs.declared.ask.Commit.{Commit}
 use Rattle.bcv_model.specs.Commits.{writes_of}
-use Rattle.bcv_pages.specs.Held.{Held, CanView, view_of, last_of}
+use Rattle.bcv_pages.specs.Held.{Held, CanView, view_of}
 use Rattle.bcv_pages.specs.Index.{writing}
 use Rattle.bcv_pages.specs.Indexed.{sizes}
 use Rattle.bcv_pages.specs.Minima.{IsLeast}

@@ -1,5 +1,5 @@
 -- The next local page of a view, and the next block that holds one.
-use Rattle.std.proofs.Common.{◌≡◌, ℕ, zero, suc, ◌+◌, ◌-◌, ◌*◌, ◌/◌, ◌%◌, ◌^◌, ◌<◌, ◌≤◌, ◌≢◌, Bool, true, false, nat_le, not, ◌&&◌, min, max, cond, List, [], ◌∷◌, ◌++◌, refl, sym, ◌∙◌, ap, subst, inl, inr, ◌⊎◌, arith, mul-le-mul_right, div-mul-le_self}
+use Rattle.std.proofs.Common.{◌≡◌, ℕ, zero, suc, ◌+◌, ◌-◌, ◌*◌, ◌/◌, ◌%◌, ◌<◌, ◌≤◌, ◌≢◌, Bool, true, false, nat_le, not, ◌&&◌, min, max, List, [], ◌∷◌, ◌++◌, refl, sym, ◌∙◌, ap, subst, inl, inr, ◌⊎◌, arith, mul-le-mul_right, div-mul-le_self}
 use Rattle.std.specs.Int.{div_ceil}
 use Rattle.std.specs.List.{filter, list_any, range_with_len}
 use Rattle.std.proofs.lemmas.Bool.{cases_lt}
@@ -9,7 +9,7 @@ use Rattle.bcv_base.specs.Image.{Writes, is_base}
 use Rattle.bcv_base.specs.Views.{has_local, view_size}
 use Rattle.bcv_pages.specs.Index.{writing}
 use Rattle.bcv_pages.specs.Touched.{pages_kept, IsNextLocal, IsNextBlock}
-use Rattle.bcv_pages.proofs.Kept.{is_base-kept, unwritten, unwritten-from, written-from}
+use Rattle.bcv_pages.proofs.Kept.{is_base-kept, unwritten-from, written-from}
 use Rattle.bcv_pages.proofs.Ranges.{any-found, filter-more}
 
 base-at : (base p first : ℕ) (cs : List Writes) → p ≤ pages_kept base cs → writing first cs p ≡ [] → is_base base cs p ≡ true

@@ -1,19 +1,16 @@
 -- The numbers of the commits that write a page.
-use Rattle.std.proofs.Common.{◌≡◌, ℕ, zero, suc, ◌+◌, ◌-◌, ◌<◌, ◌≤◌, Bool, true, false, nat_lt, nat_le, cond, List, [], ◌∷◌, ◌++◌, length, take, drop, get_or, Option, Some, None, is_some, is_none, inl, inr, refl, sym, ◌∙◌, ap, subst, arith, ◌&&◌, ◌||◌, ◌==◌, ◌≢◌, map, min, ne_eqb}
-use Rattle.std.specs.List.{filter, list_all, fold}
-use Rattle.std.proofs.lemmas.Bool.{cases_lt, and_parts}
+use Rattle.std.proofs.Common.{◌≡◌, ℕ, zero, suc, ◌+◌, ◌-◌, ◌<◌, ◌≤◌, Bool, true, false, nat_lt, nat_le, cond, List, [], ◌∷◌, ◌++◌, length, take, drop, get_or, Some, None, is_some, inl, inr, refl, sym, ◌∙◌, ap, subst, arith, ◌||◌, ◌==◌, ◌≢◌, map, ne_eqb}
+use Rattle.std.specs.List.{filter}
+use Rattle.std.proofs.lemmas.Bool.{cases_lt}
 use Rattle.std.proofs.lemmas.Bool.Decides.{nat_tests}
 use Rattle.std.specs.List.Sorted.{IsPartitionedBy, IsPartitionPoint}
 use Rattle.std.proofs.lemmas.List.{get_or_default, get_or-take, get_or-map, take_more, length-take}
 use Rattle.bcv_pages.specs.Placed.{number_at, IsAscending}
 use Rattle.bcv_pages.proofs.Places.{take-nil, drop-nil, take-filter, drop-filter}
-use Rattle.bcv_base.specs.Image.{Page, Writes, written, leaves_page, is_base}
-use Rattle.bcv_base.specs.Views.{Origin, FromBase, Added, Wrote, origin_after, origin}
+use Rattle.bcv_base.specs.Image.{Page, Writes, written}
 use Rattle.std.specs.BTreeMap.{BTreeMap}
 use Rattle.std.specs.Global.{Vec}
 use Rattle.bcv_pages.specs.Index.{writing, are_rising, numbers_within, listed}
-use Rattle.bcv_pages.specs.Touched.{pages_kept}
-use Rattle.bcv_pages.specs.Indexed.{sizes}
 
 writes : ℕ → Writes → Bool
 writes p c = is_some (written c.pages p)

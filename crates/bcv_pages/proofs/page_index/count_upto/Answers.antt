@@ -1,9 +1,5 @@
-use Rattle.std.proofs.Common.{◌≡◌, ℕ, ◌<◌, ◌≤◌, Bool, true, false, nat_le, nat_lt, length, get_or, List, rules, arith}
-use Rattle.std.specs.List.Sorted.{IsPartitionedBy, IsPartitionPoint}
-use Rattle.std.proofs.lemmas.Bool.Decides.{nat_tests}
+use Rattle.std.proofs.Common.{ℕ, nat_le, rules}
 use Rattle.std.proofs.lemmas.List.Sorted.{IsPartitionPoint-from_clause}
-use Rattle.bcv_pages.specs.Index.{are_rising}
-use Rattle.bcv_pages.proofs.Places.{take-filter, drop-filter}
 use Rattle.bcv_pages.proofs.Writings.{rising-parts, parted-front, parted-back}
 use Rattle.bcv_pages.proofs.page_index.count_upto.Goals as goal
 

@@ -1,6 +1,6 @@
-use Rattle.std.proofs.Common.{◌≡◌, ℕ, ◌+◌, ◌-◌, ◌*◌, ◌^◌, ◌<◌, ◌≤◌, [], ◌∷◌, ◌++◌, List, length, get_or, min, vec_len, vec_capacity, refl, sym, ◌∙◌, ap, subst, arith, add-one, pow-suc, pow_mono}
+use Rattle.std.proofs.Common.{◌≡◌, ℕ, ◌+◌, ◌*◌, ◌^◌, ◌<◌, ◌≤◌, [], ◌∷◌, ◌++◌, List, length, get_or, min, vec_capacity, refl, ◌∙◌, ap, arith, add-one, pow-suc, pow_mono}
 use Rattle.std.proofs.lemmas.List.{get_or_append_left}
-use Rattle.bcv_pages.specs.Minima.{IsLeast, IsColumn, held_columns, sizes_of}
+use Rattle.bcv_pages.specs.Minima.{held_columns, sizes_of}
 use Rattle.bcv_pages.proofs.Least.{column-back, column-first, column-step, level-below, length-sizes, read-at}
 use Rattle.bcv_pages.proofs.size_minima.filled.Goals as goal
 

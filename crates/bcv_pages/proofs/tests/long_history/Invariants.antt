@@ -1,4 +1,4 @@
-use Rattle.std.proofs.Common.{◌≡◌, ◌+◌, length}
+use Rattle.std.proofs.Common.{◌≡◌, length}
 use Rattle.bcv_pages.proofs.tests.long_history.Given as goal
 
 abbrev pub invariant-loop-number : goal.invariant-loop-number

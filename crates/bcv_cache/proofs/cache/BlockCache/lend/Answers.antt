@@ -1,5 +1,4 @@
-use Rattle.std.proofs.Common.{◌≡◌, ℕ, List, length, Some, sym, ap, ◌∙◌, arith}
-use Rattle.bcv_cache.specs.Entry.{Blocks}
+use Rattle.std.proofs.Common.{Some, sym, ap, ◌∙◌, arith}
 use Rattle.bcv_cache.proofs.Places.{IsCache-seen}
 use Rattle.bcv_cache.proofs.Found.{in_use, reads}
 use Rattle.bcv_cache.proofs.cache.BlockCache.lend.Goals as goal

@@ -1,16 +1,12 @@
-use Rattle.std.proofs.Common.{◌≡◌, ℕ, ◌+◌, ◌<◌, ◌++◌, ◌∷◌, [], List, map, length, Option, Some, None, IfSome, is_some, option_map, true, sym, ◌∙◌, ap, subst, arith}
-use Rattle.std.specs.List.{list_all}
+use Rattle.std.proofs.Common.{◌≡◌, ℕ, ◌+◌, ◌++◌, ◌∷◌, [], List, length, Option, Some, IfSome, is_some, option_map, true, sym, ◌∙◌, ap, subst, arith}
 use Rattle.std.specs.Global.{Vec}
 use Rattle.std.proofs.lemmas.Bool.{and_parts}
-use Rattle.std.proofs.lemmas.List.{length-map, map-append}
-use Rattle.std.proofs.lemmas.List.Folds.{list_all-append}
-use Rattle.bcv_base.specs.Image.{Writes}
+use Rattle.std.proofs.lemmas.List.{length-map}
 use Rattle.bcv_base.specs.Views.{is_commit, ascends, have_size}
 use Rattle.bcv_model.specs.declared.ask.Commit.{Commit}
 use Rattle.bcv_model.specs.Commits.{writes_of}
-use Rattle.bcv_pages.specs.Held.{Held, last_of, numbers_of}
-use Rattle.bcv_pages.specs.Index.{has_room}
-use Rattle.bcv_pages.specs.Indexed.{IsReady, sizes}
+use Rattle.bcv_pages.specs.Held.{Held, numbers_of}
+use Rattle.bcv_pages.specs.Indexed.{IsReady}
 use Rattle.bcv_pages.specs.Minima.{Minima}
 use Rattle.bcv_pages.proofs.Places.{IsAscending-from_ascends}
 use Rattle.bcv_pages.proofs.Sets.{well-push, sizes-push, pages-push}

@@ -1,9 +1,8 @@
-use Rattle.std.proofs.Common.{◌≡◌, ℕ, ◌+◌, ◌-◌, ◌≤◌, ◌<◌, ◌≢◌, max, min, List, [], map, take, drop, sym, ◌∙◌, ap, subst, arith}
+use Rattle.std.proofs.Common.{◌≡◌, ℕ, ◌+◌, ◌-◌, max, min, List, map, take, drop, sym, ◌∙◌, ap, subst, arith}
 use Rattle.bcv_base.specs.Image.{Writes}
 use Rattle.bcv_model.specs.Commits.{writes_of}
 use Rattle.bcv_pages.specs.Held.{Held, view_of}
-use Rattle.bcv_pages.specs.Index.{listed, writing, are_rising, numbers_within}
-use Rattle.bcv_pages.specs.Touched.{IsNextLocal}
+use Rattle.bcv_pages.specs.Index.{are_rising}
 use Rattle.bcv_pages.proofs.Writings.{writing-rises, found-within}
 use Rattle.bcv_pages.proofs.NextLocal.{local-grown, local-next}
 use Rattle.bcv_pages.proofs.page_set.PageSet.next_local.Goals as goal

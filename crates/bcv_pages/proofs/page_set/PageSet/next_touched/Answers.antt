@@ -1,4 +1,4 @@
-use Rattle.std.proofs.Common.{◌≡◌, ℕ, ◌+◌, ◌-◌, ◌*◌, ◌/◌, ◌≤◌, sym, ◌∙◌, ap, subst, arith, div-le_self}
+use Rattle.std.proofs.Common.{◌≡◌, ◌+◌, ◌-◌, ◌*◌, ◌≤◌, ◌∙◌, ap, subst, arith, div-le_self}
 use Rattle.bcv_pages.specs.Held.{view_of}
 use Rattle.bcv_pages.specs.Touched.{IsNextLocal}
 use Rattle.bcv_pages.proofs.NextLocal.{block-next, no-block}

@@ -1,5 +1,4 @@
-use Rattle.std.proofs.Common.{◌≡◌, ℕ, ◌+◌, ◌-◌, ◌≤◌, List, length, map, min, ap, sym, ◌∙◌, subst, arith}
-use Rattle.std.proofs.lemmas.List.{length-map}
+use Rattle.std.proofs.Common.{◌≡◌, ℕ, ◌+◌, ◌-◌, List, length, map, ap, ◌∙◌, subst, arith}
 use Rattle.bcv_base.specs.Image.{Writes}
 use Rattle.bcv_model.specs.Commits.{writes_of}
 use Rattle.bcv_pages.specs.Held.{Held, last_of}

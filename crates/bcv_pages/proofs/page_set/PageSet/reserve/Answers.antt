@@ -1,10 +1,8 @@
-use Rattle.std.proofs.Common.{◌≡◌, ℕ, ◌+◌, ◌<◌, List, map, length, true, sym, ◌∙◌, ap, subst, arith}
+use Rattle.std.proofs.Common.{◌≡◌, ◌+◌, List, map, length, ◌∙◌, ap, arith}
 use Rattle.std.proofs.lemmas.List.{length-map}
 use Rattle.bcv_base.specs.Image.{Writes}
-use Rattle.bcv_model.specs.declared.ask.Commit.{Commit}
 use Rattle.bcv_model.specs.Commits.{writes_of}
-use Rattle.bcv_pages.specs.Held.{Held, last_of}
-use Rattle.bcv_pages.specs.Index.{has_room}
+use Rattle.bcv_pages.specs.Held.{last_of}
 use Rattle.bcv_pages.specs.Minima.{Minima}
 use Rattle.bcv_pages.proofs.page_set.PageSet.reserve.Goals as goal
 

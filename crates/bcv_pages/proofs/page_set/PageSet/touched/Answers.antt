@@ -1,4 +1,4 @@
-use Rattle.std.proofs.Common.{◌≡◌, ◌++◌, ◌∷◌, [], List, ℕ, sym, ◌∙◌, ap, arith}
+use Rattle.std.proofs.Common.{◌++◌, ◌∷◌, [], List, ℕ, sym, ◌∙◌, ap, arith}
 use Rattle.bcv_pages.proofs.NextLocal.{filter-none, filter-next}
 use Rattle.bcv_pages.proofs.page_set.PageSet.touched.Goals as goal
 

@@ -1,4 +1,4 @@
-use Rattle.std.proofs.Common.{arith, ◌≤◌, ◌<◌, ◌+◌}
+use Rattle.std.proofs.Common.{arith, ◌+◌}
 use Rattle.bcv_pages.specs.Held.{view_of}
 use Rattle.bcv_pages.proofs.Kept.{origin-base, origin-added}
 use Rattle.bcv_pages.proofs.page_set.PageSet.unwritten_at.Goals as goal

@@ -1,9 +1,8 @@
-use Rattle.std.proofs.Common.{◌≡◌, ℕ, ◌+◌, ◌-◌, ◌≤◌, ◌<◌, List, [], ◌∷◌, map, take, drop, length, Option, Some, None, is_some, true, sym, ◌∙◌, ap, subst, arith}
+use Rattle.std.proofs.Common.{◌≡◌, ℕ, ◌+◌, ◌-◌, ◌≤◌, ◌<◌, List, ◌∷◌, map, take, drop, length, Some, None, is_some, true, sym, ◌∙◌, ap, subst, arith}
 use Rattle.std.proofs.lemmas.List.{length-map}
 use Rattle.bcv_base.specs.Image.{Page, Writes, written}
 use Rattle.bcv_model.specs.Commits.{writes_of}
 use Rattle.bcv_pages.specs.Held.{Held, view_of, last_of}
-use Rattle.bcv_pages.specs.Index.{writing}
 use Rattle.bcv_pages.specs.Touched.{pages_kept}
 use Rattle.bcv_pages.proofs.Kept.{origin-zeros, origin-local, first-writes, view-from}
 use Rattle.bcv_pages.proofs.Sets.{commit-ascends}

@@ -1,4 +1,4 @@
-use Rattle.std.proofs.Common.{◌≡◌, ℕ, List, drop, ap, ◌∙◌, arith}
+use Rattle.std.proofs.Common.{ℕ, List, drop, ap, ◌∙◌, arith}
 use Rattle.std.specs.Global.{Vec}
 use Rattle.bcv_pages.specs.Minima.{Minima, held_columns, minima_of}
 use Rattle.bcv_pages.proofs.Least.{columns-drop, held-drop, minima-drop, room-drop}

@@ -1,5 +1,5 @@
-use Rattle.std.proofs.Common.{◌≡◌, ℕ, ◌+◌, ◌-◌, ◌*◌, ◌^◌, ◌<◌, ◌≤◌, List, length, get_or, min, ap, sym, ◌∙◌, subst, arith}
-use Rattle.bcv_pages.specs.Minima.{Minima, IsLeast, IsColumn, held_columns, sizes_of}
+use Rattle.std.proofs.Common.{◌≡◌, ℕ, List, length, get_or, min, ap, sym, ◌∙◌, subst, arith}
+use Rattle.bcv_pages.specs.Minima.{Minima, IsLeast, held_columns, sizes_of}
 use Rattle.bcv_pages.proofs.Least.{column-front, column-end, least-over, length-sizes, read-at}
 use Rattle.bcv_pages.proofs.size_minima.SizeMinima.least.Goals as goal
 

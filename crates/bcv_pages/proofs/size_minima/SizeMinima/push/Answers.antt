@@ -1,4 +1,3 @@
-use Rattle.std.proofs.Common.{arith}
 use Rattle.bcv_pages.proofs.Least.{columns-pushed}
 use Rattle.bcv_pages.proofs.size_minima.SizeMinima.push.Goals as goal
 
