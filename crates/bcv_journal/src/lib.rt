@@ -19,3 +19,5 @@ pub use journal::Journal;
 pub use layout::loads_once;
 pub use load::Load;
 
+#[cfg(test)]
+mod tests;
