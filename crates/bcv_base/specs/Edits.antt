@@ -32,7 +32,7 @@ kept_databases Sweep dbs = dbs
 
 -- the version that an edit makes
 abbrev pub edited : Version → Edit → Id16 → ℕ → Version
-edited v e id now = record { id = id; moment = max v.moment now; dbs = with_made the_name (made_database e id v.dbs) (kept_databases e v.dbs) }
+edited v e id now = record v { id = id; moment = max v.moment now; dbs = with_made the_name (made_database e id v.dbs) (kept_databases e v.dbs) }
 
 -- the version that a create makes: no database
 abbrev pub created : Id16 → ℕ → Version

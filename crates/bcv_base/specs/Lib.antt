@@ -1,10 +1,11 @@
+pub mod BlockCounts
 pub mod DatabaseHeader
 pub mod Drawn
 pub mod Edits
 pub mod Faults
-pub mod Ids
 pub mod History
 pub mod HistoryLaws
+pub mod Ids
 pub mod Image
 pub mod Joined
 pub mod Keyed
@@ -14,11 +15,14 @@ pub mod ManifestGrammar
 pub mod ManifestRules
 pub mod ManifestText
 pub mod Memory
+pub mod Moments
 pub mod Names
 pub mod Numbered
 pub mod Objects
 pub mod Padded
 pub mod Plan
+pub mod SetMoment
+pub mod SizeLimits
 pub mod Streams
 pub mod Version
 pub mod Versions

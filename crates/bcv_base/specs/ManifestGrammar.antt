@@ -11,6 +11,7 @@ use Rattle.bcv_base.specs.Keyed.{comes_before}
 use Rattle.bcv_base.specs.ManifestRules.{writer_id, db_name, dead_id, lists, is_block_size, is_page_size, blocks_needed}
 use Rattle.bcv_base.specs.ManifestText.{magic, id_text}
 use Rattle.bcv_base.specs.Names.{is_name}
+use Rattle.bcv_base.specs.SizeLimits.{most_writers, most_databases, most_blocks, most_dead, most_bytes}
 
 -- a value and the bytes after it, or how many bytes there are from the start of the field at fault on
 abbrev pub Read : Type 0 → Type 0
@@ -79,7 +80,7 @@ entry_at block before bytes = do
   name ← such (bytes_at len.0) (λ k. is_name k && is_above before k) len.1
   tag ← id_at name.1
   page_size ← such (number_at w32) (is_page_size block) tag.1
-  pages ← such (number_at w32) (λ n. nat_le (blocks_needed block page_size.0 n) 65536) page_size.1
+  pages ← such (number_at w32) (λ n. nat_le (blocks_needed block page_size.0 n) most_blocks) page_size.1
   blocks ← items_at id_text (λ _. id_at) (blocks_needed block page_size.0 pages.0) None pages.1
   Ok (record { name = name.0; tag = tag.0; page_size = page_size.0; pages = pages.0; blocks = blocks.0 }, blocks.1)
 
@@ -92,19 +93,30 @@ dead_at is_listed before bytes = do
 
 -- ---- the whole
 
--- a manifest at the front of the bytes
-unfoldable pub manifest_at : List ℕ → Read Manifest
-manifest_at bytes = do
+-- what stands before the lists, from the magic to the publication's id: a manifest with empty lists
+unfoldable pub head_at : List ℕ → Read Manifest
+head_at bytes = do
   front ← such (bytes_at 8) (λ k. bytes_eq k magic) bytes
   number ← such (number_at w64) (λ n. nat_le 1 n) front.1
   moment ← number_at w64 number.1
   block ← such (number_at w32) is_block_size moment.1
   retention ← number_at w64 block.1
   id ← id_at retention.1
-  writers ← counted_at 4096 writer_id (writer_at number.0) id.1
-  dbs ← counted_at 1024 db_name (entry_at block.0) writers.1
-  dead ← counted_at 1048576 dead_id (dead_at (lists dbs.0)) dbs.1
-  Ok (record { number = number.0; moment = moment.0; block = block.0; retention = retention.0; id = id.0; writers = writers.0; dbs = dbs.0; dead = dead.0 }, dead.1)
+  Ok (record { number = number.0; moment = moment.0; block = block.0; retention = retention.0; id = id.0; writers = []; dbs = []; dead = [] }, id.1)
+
+-- the lists of a manifest, after its head
+unfoldable pub lists_at : Manifest → List ℕ → Read Manifest
+lists_at head bytes = do
+  writers ← counted_at most_writers writer_id (writer_at head.number) bytes
+  dbs ← counted_at most_databases db_name (entry_at head.block) writers.1
+  dead ← counted_at most_dead dead_id (dead_at (lists dbs.0)) dbs.1
+  Ok (record head { writers = writers.0; dbs = dbs.0; dead = dead.0 }, dead.1)
+
+-- a manifest at the front of the bytes
+unfoldable pub manifest_at : List ℕ → Read Manifest
+manifest_at bytes = do
+  head ← head_at bytes
+  lists_at head.0 head.1
 
 -- the manifest that all of the bytes are; where they go on behind it, the fault is there
 unfoldable pub whole_at : List ℕ → Result Manifest ℕ
@@ -119,7 +131,7 @@ placed total (Err left) = Err (total - left)
 
 -- the manifest that the bytes are, or the place of the fault; where they are too long, that is the length allowed
 unfoldable pub manifest_of : List ℕ → Result Manifest ℕ
-manifest_of bytes = if nat_lt 67108864 (length bytes) then Err 67108864 else placed (length bytes) (whole_at bytes)
+manifest_of bytes = if nat_lt most_bytes (length bytes) then Err most_bytes else placed (length bytes) (whole_at bytes)
 
 -- the database's entry at the front of the bytes and its length, or the place of the fault
 unfoldable pub entry_of : ℕ → List ℕ → Result (DbEntry × ℕ) ℕ

@@ -1,4 +1,4 @@
--- What a manifest is to keep: the rules of its values, and the limits on how many and how long they are.
+-- What a manifest is to keep: the rules of its values, the limits on how many they are, and the limit on its length.
 use Rattle.std.specs.Prelude.{◌≡◌, ℕ, ◌+◌, ◌-◌, ◌*◌, ◌/◌, ◌^◌, ◌<◌, ◌≤◌, Bool, true, false, ◌&&◌, List, [], ◌∷◌, length, is_some, nat_le}
 use Rattle.std.specs.List.{list_any, AllByRecursion}
 use Rattle.std.specs.Int.{is_power_of_two}
@@ -10,6 +10,7 @@ use Rattle.bcv_base.specs.declared.manifest.Writer.{Writer}
 use Rattle.bcv_base.specs.Ids.{has_id, IsId}
 use Rattle.bcv_base.specs.Keyed.{comes_before, keyed}
 use Rattle.bcv_base.specs.Names.{is_name}
+use Rattle.bcv_base.specs.SizeLimits.{most_writers, most_databases, most_blocks, most_dead, most_bytes}
 
 -- ---- keys and look-ups
 
@@ -72,7 +73,7 @@ pub record MeetsEntryRules (block : ℕ) (d : DbEntry) : Type 0 where
   pub page_size : is_page_size block d.page_size ≡ true
   pub pages : d.pages < 2 ^ 32
   pub blocks : length d.blocks ≡ blocks_needed block d.page_size d.pages
-  pub few : length d.blocks ≤ 65536
+  pub few : length d.blocks ≤ most_blocks
   pub ids : AllByRecursion IsId d.blocks
 
 -- no database lists a dead block
@@ -81,7 +82,7 @@ pub record MeetsDeadRules (dbs : List DbEntry) (e : Dead) : Type 0 where
   pub unlisted : lists dbs e.id ≡ false
   pub stamp : e.stamp < 2 ^ 64
 
--- each rule but those on how many and how long
+-- each rule but those on how many there are and how long they are
 pub record MeetsRules (m : Manifest) : Type 0 where
   pub least : 1 ≤ m.number
   pub number : m.number < 2 ^ 64
@@ -106,12 +107,20 @@ abbrev pub total_length : List DbEntry → ℕ
 total_length [] = 0
 total_length (d ∷ ds) = entry_length d + total_length ds
 
+-- the bytes of a manifest with so many writers, so many bytes of entries and so many dead blocks
+abbrev pub length_of : ℕ → ℕ → ℕ → ℕ
+length_of writers entries dead = 64 + 40 * writers + entries + 24 * dead
+
 -- the bytes of a manifest
 abbrev pub manifest_length : Manifest → ℕ
-manifest_length m = 64 + 40 * length m.writers + total_length m.dbs + 24 * length m.dead
+manifest_length m = length_of (length m.writers) (total_length m.dbs) (length m.dead)
 
+-- no more writers, databases and dead blocks than there may be
 pub record MeetsLimits (m : Manifest) : Type 0 where
-  pub few_writers : length m.writers ≤ 4096
-  pub few_dbs : length m.dbs ≤ 1024
-  pub few_dead : length m.dead ≤ 1048576
-  pub short : manifest_length m ≤ 67108864
+  pub few_writers : length m.writers ≤ most_writers
+  pub few_dbs : length m.dbs ≤ most_databases
+  pub few_dead : length m.dead ≤ most_dead
+
+-- the bytes of a manifest as it is written are no more than there may be
+abbrev pub IsShort : Manifest → Type 0
+IsShort m = manifest_length m ≤ most_bytes

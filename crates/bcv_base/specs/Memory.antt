@@ -1,13 +1,14 @@
 -- What sources and sinks in memory are to a contract.
-use Rattle.std.specs.Prelude.{◌≡◌, ℕ, min, true, false, List, length}
+use Rattle.std.specs.Prelude.{◌≡◌, ℕ, min, Bool, true, false, List, length}
 use Rattle.bcv_base.specs.Plan.{Plan, fails_next}
 use Rattle.bcv_base.specs.declared.source.Took.{Took}
 use Rattle.bcv_base.specs.declared.source.Took.TheVariants as took
 
--- a source: the bytes that are left, how many a take gives at most, and which takes fail
+-- a source: the bytes that are left, how many a take gives at most, whether it has ended, and which takes fail
 pub record Feed : Type 0 where
   pub left : List ℕ
   pub piece : ℕ
+  pub ended : Bool
   pub plan : Plan
 
 -- a sink: the bytes that were given, and which gives fail

@@ -1,7 +1,7 @@
 ghost use Rattle.std.specs.Prelude.{◌≡◌, ℕ, ◌+◌, ◌-◌, ◌^◌, ◌<◌, List, Option};
-ghost use Rattle.bcv_base.specs.Drawn.{Draws, DrawCause};
+ghost use Rattle.bcv_base.specs.Drawn.{Draws};
 ghost use Rattle.bcv_base.specs.Plan.{one_more};
-ghost use Rattle.bcv_base.specs.Numbered.{numbered, numbered_names};
+ghost use Rattle.bcv_base.specs.Numbered.{numbered, counted};
 
 use crate::id::Id16;
 use crate::names::{Draw, Names};
@@ -48,18 +48,12 @@ impl CountNames {
 }
 
 impl Names for CountNames {
-    ghost use Rattle.std.specs.Prelude.{Some};
-    ghost use Rattle.bcv_base.specs.Numbered.{numbered_names};
-
-    ghost drawn = { λ c. Some (numbered_names c.count) };
-
-    ghost faults = { λ c. c.faults };
+    ghost shown = { counted };
 
     fn draw(&mut self) -> Draw
-        ensures names { Draws (Some (numbered_names self.old.count)) (Some (numbered_names self.new.count)) result }
-        ensures cause { DrawCause self.old.faults self.new.faults result }
+        ensures draws { Draws (counted self.old) (counted self.new) result }
         ensures next { self.old.count < 2 ^ 128 - 1 → (result ≡ Draw.Drawn (numbered (self.old.count + 1))) × (self.new ≡ record { count = self.old.count + 1; faults = 0 }) }
-        ensures ended { self.old.count ≡ 2 ^ 128 - 1 → (result ≡ Draw.Failed) × (self.new ≡ record { count = self.old.count; faults = one_more self.old.faults }) }
+        ensures ended { self.old.count ≡ 2 ^ 128 - 1 → (result ≡ Draw.Failed) × (self.new ≡ record self.old { faults = one_more self.old.faults }) }
         ensures within { self.old.count < 2 ^ 128 }
     {
         if self.count == u128::MAX {

@@ -1,5 +1,7 @@
-ghost use Rattle.std.specs.Prelude.{◌≡◌, MatchOption, IfSome, Some, length, true};
-ghost use Rattle.bcv_base.specs.Ids.{id_eq, are_bytes, IsId};
+ghost use Rattle.std.specs.Prelude.{◌≡◌, IsSorted, MatchOption, IfSome, Some, length, true};
+ghost use Rattle.std.specs.Cmp.Lexicographic.{slice_cmp};
+ghost use Rattle.std.specs.Ordering.{nat_cmp};
+ghost use Rattle.bcv_base.specs.Ids.{id_eq, has_id, are_bytes, IsId};
 ghost use Rattle.bcv_base.specs.Names.{hex_of};
 ghost use Rattle.bcv_base.specs.declared.id.Id16.{Id16};
 
@@ -44,6 +46,14 @@ impl Id16 {
             None
         }
     }
+}
+
+/// Whether the id is one of these, which ascend.
+pub fn is_one_of(ids: &[Id16], id: &Id16) -> bool
+    requires { IsSorted (λ a b. slice_cmp nat_cmp a.0 b.0) ids.now }
+    ensures { result ≡ has_id id.now ids.now }
+{
+    ids.binary_search(id).is_ok()
 }
 
 // A slice of bytes, of which each is below 256.

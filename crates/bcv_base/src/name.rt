@@ -23,10 +23,10 @@ pub struct DbName {
 }
 
 impl Model for DbName {
-    ghost use Rattle.std.specs.Prelude.{◌≡◌, ℕ, ◌-◌, ◌++◌, List, length, take, drop, replicate, true};
+    ghost use Rattle.std.specs.Prelude.{◌≡◌, ℕ, ◌-◌, List, length, take, drop, replicate, true};
     ghost use Rattle.std.specs.Coded.{coded_list, coded_ℕ};
     ghost use Rattle.bcv_base.specs.Names.{is_name};
-    ghost use Rattle.bcv_base.specs.Padded.{take-append-replicate};
+    ghost use Rattle.bcv_base.specs.Padded.{padded, take-append-replicate};
 
     ghost Value = { List ℕ };
 
@@ -36,7 +36,7 @@ impl Model for DbName {
 
     ghost invariant = { λ n. (is_name (take n.len n.bytes) ≡ true) × (drop n.len n.bytes ≡ replicate (64 - n.len) 0) × (length (take n.len n.bytes) ≡ n.len) };
 
-    ghost inverse = { λ bytes. record { len = length bytes; bytes = bytes ++ replicate (64 - length bytes) 0 } };
+    ghost inverse = { λ bytes. record { len = length bytes; bytes = padded 64 bytes } };
 
     ghost inverse_ok = { λ n h i. record { len = h.2 i; bytes = take-append-replicate n.len n.bytes h.1 h.2 i } };
 }

@@ -11,17 +11,12 @@ pub enum Draw {
 
 /// Where new names come from.
 pub trait Names {
-    ghost use Rattle.bcv_base.specs.declared.id.Id16.{Id16};
-    ghost use Rattle.bcv_base.specs.Drawn.{Draws, DrawCause};
+    ghost use Rattle.bcv_base.specs.Drawn.{NamesShown, Draws};
 
-    /// The names that were drawn, in order, where they are told.
-    ghost drawn: { Self → Option (List Id16) };
+    /// What it shows: the names that were drawn, where they are told, and how many of its calls have failed.
+    ghost shown: { Self → NamesShown };
 
-    /// How many of its calls have failed.
-    ghost faults: { Self → ℕ };
-
-    /// A new name.
+    /// Draws a new name.
     fn draw(&mut self) -> Draw
-        ensures names { Draws (drawn self.old) (drawn self.new) result }
-        ensures cause { DrawCause (faults self.old) (faults self.new) result };
+        ensures draws { Draws (shown self.old) (shown self.new) result };
 }

@@ -1,4 +1,6 @@
-ghost use Rattle.std.specs.Prelude.{◌≡◌, ℕ, List, Option};
+ghost use Rattle.std.specs.Prelude.{◌≡◌, ℕ, ◌<◌, List, length, Option};
+ghost use Rattle.std.specs.Io.KnownBytes.{Keeps};
+ghost use Rattle.bcv_base.specs.Streams.{Gives, GiveCause};
 
 use crate::sink::{Gave, Sink};
 use std::io::{ErrorKind, Write};
@@ -10,7 +12,7 @@ use std::io::{ErrorKind, Write};
 #[derive(Debug, Drop)]
 pub struct StdSink<W> {
     pub inner: W,
-    /// How many writes have failed, those that a signal cut short among them. It stands still at the end of its type.
+    /// How many gives have failed. It stands still at the end of its type.
     pub faults: u64,
 }
 
@@ -29,23 +31,25 @@ impl<W: Write> Sink for StdSink<W> {
 
     ghost faults = { λ s. s.faults };
 
-    // A write that a signal cut short is made again.
-    fn give(&mut self, bytes: &[u8]) -> Gave {
+    // A write that a signal cut short is made again, and is no fault.
+    fn give(&mut self, bytes: &[u8]) -> Gave
+        requires { 0 < length bytes.now }
+        ensures bytes { Gives (W.contents self.old.inner) (W.contents self.new.inner) result bytes.now }
+        ensures cause { GiveCause self.old.faults self.new.faults result }
+        ensures unmoved { result ≡ Gave.Failed → Keeps (W.contents self.old.inner) (W.contents self.new.inner) }
+    {
         for _ in 0..u64::MAX {
             match self.inner.write(bytes) {
-                Ok(0) => {
-                    self.faults = self.faults.saturating_add(1);
-                    return Gave::Failed;
-                }
+                Ok(0) => break,
                 Ok(count) => return Gave::Some(count),
                 Err(error) => {
-                    self.faults = self.faults.saturating_add(1);
                     if error.kind() != ErrorKind::Interrupted {
-                        return Gave::Failed;
+                        break;
                     }
                 }
             }
         }
+        self.faults = self.faults.saturating_add(1);
         Gave::Failed
     }
 }

@@ -1,6 +1,6 @@
 use crate::{
-    CountNames, DbName, Draw, Gave, Id16, MemSink, MemSource, Names, ObjName, Sink, Source,
-    StdSink, StdSource, Took, page_size_of,
+    Clock, CountNames, DbName, Draw, Gave, Id16, MemSink, MemSource, Names, Now, ObjName, Outside,
+    SetClock, Sink, Source, StdSink, StdSource, Took, page_size_of,
 };
 use std::io::{self, ErrorKind, Read};
 use std::test::Fail;
@@ -59,7 +59,7 @@ fn page_sizes(rt: HostRuntime) {
     assert!(rt; page_size_of(b"SQLite format 4\0\x10\0").is_none());
 }
 
-// A reader that is cut short by a signal, then at its end, and then broken.
+// A reader that is cut short by a signal, then broken, and then at its end.
 #[derive(Drop)]
 struct Flaky {
     calls: u8,
@@ -70,8 +70,8 @@ impl Read for Flaky {
         self.calls = self.calls.saturating_add(1);
         match self.calls {
             1 => Err(ErrorKind::Interrupted.into()),
-            2 => Ok(0),
-            _ => Err(ErrorKind::BrokenPipe.into()),
+            2 => Err(ErrorKind::BrokenPipe.into()),
+            _ => Ok(0),
         }
     }
 }
@@ -106,10 +106,11 @@ fn readers(rt: HostRuntime) {
 fn broken_readers(rt: HostRuntime) {
     let mut read = [0; 2];
     let mut source = StdSource::new(Flaky { calls: 0 });
+    assert_eq!(rt; source.take(&mut read), Took::Failed);
+    assert_eq!(rt; source.faults, 1);
     assert_eq!(rt; source.take(&mut read), Took::End);
     assert_eq!(rt; source.faults, 1);
-    assert_eq!(rt; source.take(&mut read), Took::Failed);
-    assert_eq!(rt; source.faults, 2);
+    assert!(rt; source.ended);
 }
 
 #[test]
@@ -145,4 +146,17 @@ fn counted_names(rt: HostRuntime) {
         id.0[15] = number;
         assert_eq!(rt; names.draw(), Draw::Drawn(id));
     }
+}
+
+#[test]
+fn set_clocks(rt: HostRuntime) {
+    let mut outside = Outside {
+        store: (),
+        clock: SetClock::new(7),
+        names: CountNames::new(),
+    };
+    assert_eq!(rt; outside.clock.now(), Now::At(7));
+    outside.clock.set(9);
+    assert_eq!(rt; outside.clock.now(), Now::At(9));
+    assert_eq!(rt; outside.names.faults(), 0);
 }

@@ -1,11 +1,8 @@
 pub mod BlockTexts
-pub mod CreateLaws
-pub mod Grown
 pub mod MayPut
 pub mod Owned
 pub mod PagesLaws
 pub mod Parts
 pub mod Powers
-pub mod Stepping
 pub mod Tasks
-pub mod Unput
+pub mod WorkLaws

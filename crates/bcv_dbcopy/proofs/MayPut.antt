@@ -15,10 +15,16 @@ use Rattle.bcv_dbmap.specs.Applied.{dbs_after, swept_ids}
 use Rattle.bcv_dbmap.specs.Merged.{taken_off}
 use Rattle.bcv_dbmap.proofs.Bools.{or_left}
 use Rattle.bcv_dbmap.proofs.Moved.{taken}
-use Rattle.bcv_publish.specs.Putting.{IsOwnBlock, MayPublish}
-use Rattle.bcv_dbcopy.specs.Putting.{MayPut}
+use Rattle.bcv_dbmap.specs.OwnBlock.{IsOwnBlock}
+use Rattle.bcv_dbmap.specs.Honest.{GrewHonestly}
+use Rattle.bcv_dbmap.specs.Sound.{Sound}
+use Rattle.bcv_publish.specs.declared.work.PutEnd.{PutEnd}
+use Rattle.bcv_publish.specs.ManifestPut.{MayPublish, ManifestPuts, ManifestPutSound}
+use Rattle.bcv_publish.specs.State as publish
+use Rattle.bcv_store.specs.StoreShown.{StoreTold, StoreShown}
+use Rattle.bcv_dbcopy.specs.TaskPut.{MayPut}
 use Rattle.bcv_dbcopy.specs.State.{State, IsTask, IsEdit, is_ready, left_of}
-use Rattle.bcv_dbcopy.specs.Working.{AreOwnBlocks, HasBlocks}
+use Rattle.bcv_dbcopy.specs.TaskWork.{AreOwnBlocks, HasBlocks}
 use Rattle.bcv_dbcopy.proofs.Tasks.{Ready, ready_of, some_kept}
 
 own_among : (mine : List Id16) (past : List Item) (block size : ℕ) (pages : List Page) (n : ℕ) (ids : List Id16) (i : Id16) → AreOwnBlocks mine past block size pages n ids → has_id i ids ≡ true → IsOwnBlock mine past block i
@@ -59,10 +65,12 @@ may_publish mine log s l moment t r may =
       swept = λ i h. absurd (none_swept s.edit s.pages i t.edit h);
     }
 
-pub any_may : (X : Latest → Type 0) (mine : List Id16) (log : List Entry) (s : State) (moment : ℕ) → IsTask s → is_ready s ≡ true
-    → MatchOption s.publish.latest ⊥ (λ l. MayPublish mine log s.publish l s.edit moment → X l) → MatchOption s.publish.latest ⊥ (λ l. MayPut mine log s l → X l)
-any_may X mine log s moment t ready sound =
+pub any_sound : (store : StoreTold) (mine : List Id16) (old new : StoreShown) (s : State) (moment : ℕ) (result : PutEnd) (q : publish.State) → IsTask s → is_ready s ≡ true
+    → store.tells → Sound (history_of old.log) → GrewHonestly store.alone mine old.log new.log
+    → MatchOption s.publish.latest ⊥ (λ read. ManifestPuts store old new s.publish read s.edit moment result q)
+    → MatchOption s.publish.latest ⊥ (λ read. MayPut mine old.log s read → ManifestPutSound store mine old new s.publish read s.edit moment result q)
+any_sound store mine old new s moment result q t ready tells sound honest puts =
     let k = some_kept s.publish.latest (first_so (is_some s.publish.latest) (left_of s == 1) ready) in
-    let of_it = subst (λ (o : Option Latest). MatchOption o ⊥ (λ l. MayPublish mine log s.publish l s.edit moment → X l)) k.1 sound in
-    subst (λ (o : Option Latest). MatchOption o ⊥ (λ l. MayPut mine log s l → X l)) (sym k.1)
-    (λ may. of_it (may_publish mine log s k.0 moment t (ready_of s k.0 t ready k.1) may))
+    let of_it = subst (λ (o : Option Latest). MatchOption o ⊥ (λ read. ManifestPuts store old new s.publish read s.edit moment result q)) k.1 puts in
+    subst (λ (o : Option Latest). MatchOption o ⊥ (λ read. MayPut mine old.log s read → ManifestPutSound store mine old new s.publish read s.edit moment result q)) (sym k.1)
+    (λ may. of_it.sound tells mine sound honest (may_publish mine old.log s k.0 moment t (ready_of s k.0 t ready k.1) may))

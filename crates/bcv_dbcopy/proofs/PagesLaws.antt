@@ -12,9 +12,9 @@ use Rattle.bcv_base.specs.ManifestRules.{is_block_size, blocks_needed}
 use Rattle.bcv_dbmap.specs.declared.plan.EditPlan.{EditPlan}
 use Rattle.bcv_dbmap.specs.declared.plan.EditPlan.TheVariants as edit
 use Rattle.bcv_dbmap.specs.Applied.{edit_of}
-use Rattle.bcv_dbcopy.specs.Putting.{BlocksAreThePages, edit_made}
+use Rattle.bcv_dbcopy.specs.TaskPut.{BlocksAreThePages, edit_made}
 use Rattle.bcv_dbcopy.specs.State.{IsNew, IsEdit, FitsBlock, block_text, pages_text, padded, put_ids, needed, left_of}
-use Rattle.bcv_dbcopy.specs.Working.{AreOwnBlocks, HasBlocks}
+use Rattle.bcv_dbcopy.specs.TaskWork.{AreOwnBlocks, HasBlocks}
 use Rattle.bcv_dbcopy.proofs.BlockTexts.{Sized, sized_take, sized_drop, length_text, pages_held}
 use Rattle.bcv_dbcopy.proofs.Powers.{whole, page_some, block_some, enough}
 use Rattle.bcv_dbcopy.proofs.Tasks.{ready_of, some_kept}

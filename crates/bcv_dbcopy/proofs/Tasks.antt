@@ -1,5 +1,5 @@
 -- What each step keeps of a task.
-use Rattle.std.proofs.Common.{◌≡◌, ◌∙◌, ℕ, ◌+◌, ◌-◌, ◌<◌, ◌≤◌, Bool, true, false, not, ◌&&◌, ◌||◌, ◌==◌, cond, List, [], ◌∷◌, ◌++◌, length, length-append, Option, Some, None, MatchOption, is_some, is_none, nat_lt, nat_le, refl, sym, ap, subst, arith}
+use Rattle.std.proofs.Common.{◌≡◌, ◌∙◌, ◌⊎◌, inl, inr, ℕ, ◌+◌, ◌-◌, ◌<◌, ◌≤◌, Bool, true, false, not, ◌&&◌, ◌||◌, ◌==◌, cond, List, [], ◌∷◌, ◌++◌, length, length-append, Option, Some, None, MatchOption, is_some, is_none, nat_lt, nat_le, refl, sym, ap, subst, arith}
 use Rattle.std.specs.Cmp.{first_so, second_so}
 use Rattle.std.specs.Int.{is_power_of_two}
 use Rattle.std.specs.List.{AllByRecursion}
@@ -25,13 +25,18 @@ use Rattle.bcv_publish.specs.declared.work.PutEnd.{PutEnd}
 use Rattle.bcv_publish.specs.declared.work.PutEnd.TheVariants as put
 use Rattle.bcv_publish.specs.declared.work.Work.{Work}
 use Rattle.bcv_publish.specs.declared.work.Work.TheVariants as work
-use Rattle.bcv_publish.specs.Getting.{GetLeaves, with_latest, unlike, is_other, is_past}
-use Rattle.bcv_publish.specs.Putting.{IsReady, PutLeaves, refused_once}
+use Rattle.bcv_publish.specs.declared.work.BlockEnd.{BlockEnd}
+use Rattle.bcv_publish.specs.declared.work.BlockEnd.TheVariants as end
+use Rattle.bcv_publish.specs.BlockPut.{BlockPutLeaves}
+use Rattle.bcv_publish.specs.ManifestGet.{GetLeaves}
+use Rattle.bcv_publish.specs.ManifestRead.{unlike, is_other, is_past}
+use Rattle.bcv_publish.specs.ManifestPut.{IsReady, PutLeaves, refused_once}
+use Rattle.bcv_publish.specs.State.{with_latest}
 use Rattle.bcv_publish.specs.State as publish
-use Rattle.bcv_publish.proofs.Made.{fills_itself}
-use Rattle.bcv_dbcopy.specs.Putting.{behind_put}
-use Rattle.bcv_dbcopy.specs.State.{State, IsTask, IsNew, IsEdit, IsFresh, IsUnderWay, IsRead, Passed, FitsBlock, put_ids, needed, is_ready, left_by, left_of, manifest_requests}
-use Rattle.bcv_dbcopy.specs.Working.{NamedLeaves, block_known, with_publish}
+use Rattle.bcv_dbmap.proofs.Fills.{fills_itself}
+use Rattle.bcv_dbcopy.specs.TaskPut.{is_published, behind_put}
+use Rattle.bcv_dbcopy.specs.State.{State, IsTask, IsRunning, IsNew, IsEdit, IsFresh, IsUnderWay, IsRead, IsRefused, Passed, PutBefore, FitsBlock, put_ids, needed, is_ready, left_by, left_of, manifest_requests}
+use Rattle.bcv_dbcopy.specs.TaskWork.{block_known, with_publish}
 use Rattle.bcv_dbcopy.proofs.BlockTexts.{Sized}
 use Rattle.bcv_dbcopy.proofs.Parts.{with_parts, parts_same}
 
@@ -45,8 +50,11 @@ pub under_way : (s : State) (block : ℕ) → IsTask s → s.published ≡ false
 under_way s block t still is = subst (λ (b : Option ℕ). MatchOption b (IsFresh s) (IsUnderWay s)) is (t.stage still)
 
 -- a manifest that is kept
+pub read_of : (s : State) (l : Latest) (block : ℕ) → IsUnderWay s block → s.publish.latest ≡ Some l → Passed s l block × PutBefore s block
+read_of s l block u there = subst (λ (o : Option Latest). IsRead s o block) there u.read
+
 pub passed_of : (s : State) (l : Latest) (block : ℕ) → IsUnderWay s block → s.publish.latest ≡ Some l → Passed s l block
-passed_of s l block u there = subst (λ (o : Option Latest). IsRead s o block) there u.read
+passed_of s l block u there = (read_of s l block u there).0
 
 -- where one is kept the block size is known
 pub record IsKnown (s : State) (l : Latest) : Type 0 where
@@ -113,7 +121,7 @@ read_more s seen l None t still none is rules limits like passes = record {
   stage = λ _. record {
     size = rules.block;
     fits = fits_read l.manifest s.publish.writer s.edit s.pages t.edit passes (fresh_of s t still is).ids;
-    read = record { block = refl; rules = rules; limits = limits; asked = s.edit; fills = fills_itself s.edit; passes = passes };
+    read = (record { block = refl; rules = rules; limits = limits; asked = s.edit; fills = fills_itself s.edit; passes = passes }, inl (fresh_of s t still is).refused);
   };
 }
 read_more s seen l (Some block) t still none is rules limits like passes =
@@ -124,7 +132,7 @@ read_more s seen l (Some block) t still none is rules limits like passes =
       stage = λ _. record {
         size = u.size;
         fits = u.fits;
-        read = record { block = same_block s.publish seen l.manifest block waits.0 like; rules = rules; limits = limits; asked = s.edit; fills = fills_itself s.edit; passes = passes };
+        read = (record { block = same_block s.publish seen l.manifest block waits.block_is like; rules = rules; limits = limits; asked = s.edit; fills = fills_itself s.edit; passes = passes }, inr waits.all_put);
       };
     }
 
@@ -171,22 +179,15 @@ pub record Longer (old new : List Id16) : Type 0 where
 same_ids : (old new : List Id16) → new ≡ old → Longer old new
 same_ids old new e = record { all = λ i h. ap (has_id i) e ∙ h; one = omega (arith, ap (λ (x : List Id16). length x) e) }
 
-longer_of : (ids old : List Id16) (result : Work) (new : List Id16) → NamedLeaves ids old result new → Longer old new
-longer_of ids old work.More new leaves = record {
+longer_of : (drawn old : List Id16) (result : BlockEnd) (new : List Id16) → BlockPutLeaves drawn old result new → Longer old new
+longer_of drawn old end.Stored new leaves = record {
   all = λ i h. ap (has_id i) leaves.2 ∙ has_id-front i leaves.0 old h;
   one = omega (arith, ap (λ (x : List Id16). length x) leaves.2, length-append old (leaves.0 ∷ []));
 }
-longer_of ids old work.NameTaken new leaves = same_ids old new leaves.1
-longer_of ids old work.StoreFault new leaves = same_ids old new leaves.1
-longer_of ids old work.NamesFault new leaves = same_ids old new leaves.1
-longer_of ids old work.NoMemory new leaves = same_ids old new leaves.1
-longer_of ids old work.Nothing new leaves = absurd leaves
-longer_of ids old (work.Fault f) new leaves = absurd leaves
-longer_of ids old work.NoContainer new leaves = absurd leaves
-longer_of ids old (work.BadManifest at) new leaves = absurd leaves
-longer_of ids old work.Gone new leaves = absurd leaves
-longer_of ids old (work.BadBlock len) new leaves = absurd leaves
-longer_of ids old work.ClockFault new leaves = absurd leaves
+longer_of drawn old end.NameTaken new leaves = same_ids old new leaves.1
+longer_of drawn old end.StoreFault new leaves = same_ids old new leaves.1
+longer_of drawn old end.NamesFault new leaves = same_ids old new leaves.1
+longer_of drawn old end.NoMemory new leaves = same_ids old new leaves.1
 
 -- what was filled with some ids is filled with more
 fills_more : (asked : EditPlan) (e : DbEntry) (ids : List Id16) → ((i : Id16) → has_id i e.blocks ≡ true → has_id i ids ≡ true) → Fills asked (edit.New e) → Fills asked (edit.New (record e { blocks = ids }))
@@ -210,7 +211,7 @@ block_at : (s : State) (e : DbEntry) (l : Latest) (block : ℕ) (ids : List Id16
     → IsTask (record (with_parts s (edit.New e) (Some l) (Some block)) { edit = edit.New (record e { blocks = ids }) })
 block_at s e l block ids t still not_ready longer are_ids =
     let u = t.stage still in
-    let p = u.read in
+    let p = u.read.0 in
     let n : IsNew e s.pages = t.edit in
     let more : length e.blocks < blocks_needed block e.page_size e.pages = more_needed s.published (blocks_needed block e.page_size e.pages) (length e.blocks) still not_ready in
     record {
@@ -218,12 +219,19 @@ block_at s e l block ids t still not_ready longer are_ids =
       stage = λ _. record {
         size = u.size;
         fits = (u.fits.0, omega (arith, longer.one), u.fits.2);
-        read = record { block = p.block; rules = p.rules; limits = p.limits; asked = p.asked; fills = fills_more p.asked e ids longer.all p.fills; passes = p.passes };
+        read = (record { block = p.block; rules = p.rules; limits = p.limits; asked = p.asked; fills = fills_more p.asked e ids longer.all p.fills; passes = p.passes }, unrefused u.read.1 more);
       };
     }
 
-pub task_more : (s : State) (e made : DbEntry) (l : Latest) (block : ℕ) (ids : List Id16) (result : Work) → IsTask s → s.published ≡ false → is_ready s ≡ false
-    → s.edit ≡ edit.New e → s.publish.latest ≡ Some l → s.block ≡ Some block → made ≡ record e { blocks = made.blocks } → NamedLeaves ids e.blocks result made.blocks
+  where
+    -- a block is put only where nothing was refused
+    unrefused : PutBefore (with_parts s (edit.New e) (Some l) (Some block)) block → length e.blocks < blocks_needed block e.page_size e.pages
+        → PutBefore (record (with_parts s (edit.New e) (Some l) (Some block)) { edit = edit.New (record e { blocks = ids }) }) block
+    unrefused (inl none) more = inl none
+    unrefused (inr all_put) more = absurd (omega (arith, all_put))
+
+pub task_more : (s : State) (e made : DbEntry) (l : Latest) (block : ℕ) (ids : List Id16) (result : BlockEnd) → IsTask s → s.published ≡ false → is_ready s ≡ false
+    → s.edit ≡ edit.New e → s.publish.latest ≡ Some l → s.block ≡ Some block → made ≡ record e { blocks = made.blocks } → BlockPutLeaves ids e.blocks result made.blocks
     → (AllByRecursion IsId e.blocks → AllByRecursion IsId made.blocks) → IsTask (record s { edit = edit.New made })
 task_more s e made l block ids result t still not_ready edit_is latest_is block_is made_is leaves are_ids =
     let same = parts_same s (edit.New e) (Some l) (Some block) edit_is latest_is block_is in
@@ -293,7 +301,9 @@ any_ready s t ready =
 
 put_refused : (s : State) (l : Latest) (p : publish.State) (end : PutEnd) → IsTask s → Ready s l → p ≡ refused_once s.publish l → IsTask (record s { publish = p; published = false })
 put_refused s l p end t r is =
-    let read : IsRead (record s { publish = refused_once s.publish l; published = false }) None r.block = (ap (λ (b : ℕ). Some b) r.passed.block, r.all_put) in
+    let read : IsRead (record s { publish = refused_once s.publish l; published = false }) None r.block =
+    record { block_is = ap (λ (b : ℕ). Some b) r.passed.block; all_put = r.all_put; some = omega (arith, length-append s.publish.refused (l.manifest.number ∷ [])) }
+    in
     let under_way : IsUnderWay (record s { publish = refused_once s.publish l; published = false }) r.block = record { size = r.under_way.size; fits = r.under_way.fits; read = read } in
     subst (λ (x : publish.State). IsTask (record s { publish = x; published = false })) (sym is)
     (record {
@@ -318,6 +328,24 @@ pub any_put : (moment : ℕ) (s : State) (end : PutEnd) (p : publish.State) → 
 any_put moment s end p t ready leaves =
     let k = some_kept s.publish.latest (first_so (is_some s.publish.latest) (left_of s == 1) ready) in
     task_put moment s k.0 end p t (ready_of s k.0 t ready k.1) (subst (λ (o : Option Latest). MatchOption o ⊥ (λ l. PutLeaves s.edit moment s.publish l end p)) k.1 leaves)
+
+-- after a refused put the task goes on
+refused_few : (moment : ℕ) (s : State) (l : Latest) (p : publish.State) → PutLeaves s.edit moment s.publish l put.Refused p → length p.refused < 8
+refused_few moment s l p leaves =
+    let long : length p.refused ≡ length (s.publish.refused ++ l.manifest.number ∷ []) = ap (λ (x : publish.State). length x.refused) leaves.1 in
+    omega (arith, long, leaves.0, length-append s.publish.refused (l.manifest.number ∷ []))
+
+pub any_refused : (moment : ℕ) (s : State) (end : PutEnd) (p : publish.State) → IsTask (behind_put s p end) → MatchOption s.publish.latest ⊥ (λ l. PutLeaves s.edit moment s.publish l end p) → end ≡ put.Refused
+    → IsRunning (behind_put s p end)
+any_refused moment s end p task leaves is = by_latest s.publish.latest leaves
+  where
+    by_latest : (o : Option Latest) → MatchOption o ⊥ (λ l. PutLeaves s.edit moment s.publish l end p) → IsRunning (behind_put s p end)
+    by_latest None leaves = absurd leaves
+    by_latest (Some l) leaves = record {
+      task = task;
+      waits = ap is_published is;
+      few = refused_few moment s l p (subst (λ (x : PutEnd). PutLeaves s.edit moment s.publish l x p) is leaves);
+    }
 
 pub none_kept : (o : Option Latest) → is_none o ≡ true → o ≡ None
 none_kept None h = refl

@@ -1,5 +1,4 @@
-pub mod Creating
-pub mod Putting
 pub mod State
-pub mod Steps
-pub mod Working
+pub mod TaskDescent
+pub mod TaskPut
+pub mod TaskWork

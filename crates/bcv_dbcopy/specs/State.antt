@@ -1,5 +1,5 @@
 -- What a task of a new database, a copy or a removal keeps.
-use Rattle.std.specs.Prelude.{◌≡◌, ◌≤◌, ◌<◌, ℕ, ◌+◌, ◌-◌, ◌*◌, ◌/◌, ◌^◌, ◌==◌, ◌&&◌, Bool, true, false, List, [], ◌∷◌, ◌++◌, length, take, drop, replicate, Option, Some, None, is_some, MatchOption, if◌then◌else◌}
+use Rattle.std.specs.Prelude.{◌≡◌, ◌≤◌, ◌<◌, ◌⊎◌, ℕ, ◌+◌, ◌-◌, ◌*◌, ◌/◌, ◌^◌, ◌==◌, ◌&&◌, Bool, true, false, List, [], ◌∷◌, ◌++◌, length, take, drop, replicate, Option, Some, None, is_some, MatchOption, if◌then◌else◌}
 use Rattle.std.specs.List.{AllByRecursion, flat_map}
 use Rattle.bcv_base.specs.declared.id.Id16.{Id16}
 use Rattle.bcv_base.specs.declared.manifest.DbEntry.{DbEntry}
@@ -12,7 +12,7 @@ use Rattle.bcv_dbmap.specs.declared.plan.EditPlan.{EditPlan}
 use Rattle.bcv_dbmap.specs.declared.plan.EditPlan.TheVariants as edit
 use Rattle.bcv_dbmap.specs.Checked.{checked}
 use Rattle.bcv_dbmap.specs.Filled.{Fills}
-use Rattle.bcv_publish.specs.Getting.{new_publish}
+use Rattle.bcv_publish.specs.State.{new_publish}
 use Rattle.bcv_publish.specs.State as publish
 use Rattle.bcv_dbcopy.specs.declared.plan.CopyPlan.{CopyPlan}
 use Rattle.bcv_dbcopy.specs.declared.plan.CopyPlan.TheVariants as plan
@@ -71,11 +71,11 @@ with_block s i = record s { edit = with_id s.edit i }
 abbrev pub pages_text : List Page → List ℕ
 pages_text pages = flat_map (λ (p : Page). p) pages
 
--- bytes up to a size, with zeros behind them
+-- bytes up to a size, with zeros after them
 abbrev pub padded : ℕ → List ℕ → List ℕ
 padded size bytes = bytes ++ replicate (size - length bytes) 0
 
--- the bytes of the block of a number, from 0: its pages, and zeros behind the last one
+-- the bytes of the block of a number, from 0: its pages, and zeros after the last one
 abbrev pub block_text : ℕ → ℕ → List Page → ℕ → List ℕ
 block_text block page_size pages n = padded block (pages_text (take (block / page_size) (drop (n * (block / page_size)) pages)))
 
@@ -91,7 +91,7 @@ abbrev pub left_by : Option ℕ → State → ℕ
 left_by None s = length s.pages + 2
 left_by (Some block) s = (needed block s.edit - length (put_ids s.edit)) + manifest_requests s.publish.latest
 
--- behind a publication there is none
+-- after a publication there is none
 abbrev pub left_of : State → ℕ
 left_of s = if s.published then 0 else left_by s.block s
 
@@ -131,16 +131,27 @@ pub record Passed (s : State) (l : Latest) (known : ℕ) : Type 0 where
   pub fills : Fills asked s.edit
   pub passes : checked l.manifest asked s.publish.writer ≡ None
 
--- a manifest is kept, or none: behind a refused put all blocks were put
-abbrev pub IsRead : State → Option Latest → ℕ → Type 0
-IsRead s None block = (s.publish.block ≡ Some block) × (length (put_ids s.edit) ≡ needed block s.edit)
-IsRead s (Some l) block = Passed s l block
+-- a put was refused before, and then all blocks were put, or none was
+abbrev pub PutBefore : State → ℕ → Type 0
+PutBefore s block = (s.publish.refused ≡ []) ⊎ (length (put_ids s.edit) ≡ needed block s.edit)
 
--- before the first get nothing was read and nothing put
+-- after a refused put no manifest is kept, and all blocks were put
+pub record IsRefused (s : State) (block : ℕ) : Type 0 where
+  pub block_is : s.publish.block ≡ Some block
+  pub all_put : length (put_ids s.edit) ≡ needed block s.edit
+  pub some : 1 ≤ length s.publish.refused
+
+-- a manifest is kept, or none is after a refused put
+abbrev pub IsRead : State → Option Latest → ℕ → Type 0
+IsRead s None block = IsRefused s block
+IsRead s (Some l) block = Passed s l block × PutBefore s block
+
+-- before the first get nothing was read, nothing put and nothing refused
 pub record IsFresh (s : State) : Type 0 where
   pub latest : s.publish.latest ≡ None
   pub block : s.publish.block ≡ None
   pub ids : put_ids s.edit ≡ []
+  pub refused : s.publish.refused ≡ []
 
 -- with the block size known
 pub record IsUnderWay (s : State) (block : ℕ) : Type 0 where
@@ -152,3 +163,9 @@ pub record IsUnderWay (s : State) (block : ℕ) : Type 0 where
 pub record IsTask (s : State) : Type 0 where
   pub edit : IsEdit s.edit s.pages
   pub stage : s.published ≡ false → MatchOption s.block (IsFresh s) (IsUnderWay s)
+
+-- what a caller keeps of a task from call to call: it is one, it was not published, and fewer than eight puts were refused
+pub record IsRunning (s : State) : Type 0 where
+  pub task : IsTask s
+  pub waits : s.published ≡ false
+  pub few : length s.publish.refused < 8

@@ -25,7 +25,7 @@ pub(crate) fn blocks_left(block: u32, edit: &EditPlan) -> u32
     }
 }
 
-/// The bytes of the block of a number, from 0: its pages, and zeros behind the last one.
+/// The bytes of the block of a number, from 0: its pages, and zeros after the last one.
 pub(crate) fn block_bytes(
     alloc: Global,
     block: u32,
@@ -44,7 +44,7 @@ pub(crate) fn block_bytes(
     filled(alloc, block, page_size, &pages[from..to])
 }
 
-// These pages, and zeros behind them up to a size.
+// These pages, and zeros after them up to a size.
 fn filled(
     alloc: Global,
     block: u32,

@@ -1,6 +1,6 @@
 ghost use Rattle.std.specs.Prelude.{◌≡◌, List, Some};
 ghost use Rattle.std.specs.Option.{option_copied};
-ghost use Rattle.bcv_dbcopy.specs.State.{FitsPages, IsEdit, IsTask, edit_of_plan, pages_of_plan, new_task, left_of, is_ready, manifest_requests};
+ghost use Rattle.bcv_dbcopy.specs.State.{FitsPages, IsEdit, IsRunning, IsTask, edit_of_plan, pages_of_plan, new_task, left_of, is_ready, manifest_requests};
 
 use crate::blocks::blocks_left;
 use crate::plan::CopyPlan;
@@ -11,7 +11,7 @@ use std::alloc::Global;
 use std::marker::Model;
 
 /// A task that publishes a new database, a copy or a removal, one request a call: `work` while it is not `ready`, and
-/// then `put`. Behind a publication there is neither.
+/// then `put`. After a publication there is neither.
 #[derive(Drop)]
 pub struct CopyTask {
     // The edit, with the ids of the blocks that were put; the pages of a new database; the block size of the manifest
@@ -37,7 +37,8 @@ impl CopyTask {
     /// A task of a writer that publishes under a drawn id. Nothing is asked of the store yet.
     pub fn new(alloc: Global, plan: CopyPlan, writer: Id16, id: Id16) -> CopyTask
         requires { FitsPages plan }
-        ensures { result ≡ new_task plan writer id }
+        ensures task { result ≡ new_task plan writer id }
+        ensures running { IsRunning result }
     {
         let (edit, pages) = parts(alloc, plan, id);
         CopyTask {

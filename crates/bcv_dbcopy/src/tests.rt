@@ -1,10 +1,10 @@
-ghost use Rattle.std.specs.Prelude.{◌≡◌, ◌<◌, ◌≤◌, ◌+◌, false, length, IfOk, IfSome};
-ghost use Rattle.bcv_dbcopy.specs.State.{FitsPages};
+ghost use Rattle.std.specs.Prelude.{◌≡◌, length, IfOk, IfSome};
+ghost use Rattle.bcv_dbcopy.specs.State.{FitsPages, IsRunning};
 
 use super::*;
 use bcv_base::{CountNames, DbName, Id16, ObjName, Seen, Seq};
 use bcv_dbmap::EditFault;
-use bcv_publish::{PutEnd, Work};
+use bcv_publish::{Created, PutEnd, Work, create};
 use bcv_store::{Cond, Del, Got, Listed, Put, Store};
 use std::alloc::{AllocError, Global};
 use std::test::Fail;
@@ -59,18 +59,13 @@ impl Few {
 
 impl Store for Few {
     ghost use Rattle.std.specs.Prelude.{[]};
+    ghost use Rattle.bcv_store.specs.StoreShown.{StoreShown};
 
-    ghost tells = { ⊥ };
+    ghost told = { record { tells = ⊥; alone = ⊥; plans = ⊥ } };
 
-    ghost alone = { ⊥ };
+    ghost shown = { λ _. record { log = []; plan = []; faults = 0 } };
 
-    ghost plans = { ⊥ };
-
-    ghost log = { λ _. [] };
-
-    ghost plan = { λ _. [] };
-
-    ghost faults = { λ _. 0 };
+    ghost reaches = { λ _ _. Unit {0} };
 
     fn get(
         &mut self,
@@ -185,9 +180,8 @@ fn worked(
     store: &mut Few,
     names: &mut CountNames,
 ) -> Option<Work>
-    requires { task.old.published ≡ false }
-    ensures running { task.new.published ≡ false }
-    ensures refused { task.new.publish.refused ≡ task.old.publish.refused }
+    requires { IsRunning task.old }
+    ensures { IsRunning task.new }
 {
     if task.ready() {
         return None;
@@ -197,9 +191,8 @@ fn worked(
 
 // The put of a task that is ready.
 fn put(task: &mut CopyTask, alloc: Global, store: &mut Few) -> Option<PutEnd>
-    requires { length task.old.publish.refused < 8 }
-    ensures running { IfSome result (λ end. end ≡ PutEnd.Refused → task.new.published ≡ false) }
-    ensures refused { length task.new.publish.refused ≤ length task.old.publish.refused + 1 }
+    requires { IsRunning task.old }
+    ensures { IfSome result (λ end. end ≡ PutEnd.Refused → IsRunning task.new) }
 {
     if !task.ready() {
         return None;

@@ -17,7 +17,7 @@ use Rattle.bcv_dbmap.specs.declared.plan.EditPlan.{EditPlan}
 use Rattle.bcv_dbmap.specs.Applied.{bury, dbs_after, dead_after}
 use Rattle.bcv_dbmap.specs.Checked.{zero_id, counted, dead_length}
 use Rattle.bcv_dbmap.specs.Past.{was_listed}
-use Rattle.bcv_dbmap.specs.Room.{database_blocks, all_blocks}
+use Rattle.bcv_base.specs.BlockCounts.{database_blocks, all_blocks}
 use Rattle.bcv_dbmap.specs.Sound.{Follows, IsMade, Sound}
 use Rattle.bcv_dbmap.proofs.Alike.{longer}
 use Rattle.bcv_dbmap.proofs.DeadLaws.{dead_at, dead_after_found, found_died, dead_after_ascends, bury_found, bury_ascends}

@@ -97,7 +97,7 @@ creates_first past block retention id writer moment reads last = ap (λ (l : Lis
 -- ---- versions stay
 
 -- one more entry appends a version or none
-more_of : (x : Item) (past : List Item) → (more : List Version) × (versions_of (x ∷ past) ≡ versions_of past ++ more)
+pub more_of : (x : Item) (past : List Item) → (more : List Version) × (versions_of (x ∷ past) ≡ versions_of past ++ more)
 more_of (BlockPut i bytes) past = ([], sym (append-nil (versions_of past)))
 more_of (Published m) past = (version_of past m ∷ [], refl)
 more_of Unreadable past = ([], sym (append-nil (versions_of past)))

@@ -196,14 +196,3 @@ sorted_ids ids asc = λ k d low high.
     let next : k + 1 ≡ suc k = omega arith in
     let within : suc k < length ids = omega arith in
     ap (λ (n : ℕ). comes_before (get_or ids n d).0 (get_or ids k d).0) next ∙ before_back (get_or ids k d).0 (get_or ids (suc k) d).0 (next_at ids k d within asc)
-
--- what a binary search answers
-pub searched : (ids : List Id16) (x : Id16) (r : Result ℕ ℕ) → Ascends own_key ids → IsSearchInRange r (length ids)
-    → IsBinarySearchResult (λ y. slice_cmp nat_cmp y.0 x.0) ids r → is_ok r ≡ has_id x ids
-searched ids x (Ok i) asc range found = sym (list_any_at (λ y. id_eq y x) ids i x range (texts_ties (get_or ids i x).0 x.0 ∙ ap is_eq (found x)))
-searched ids x (Err i) asc range found =
-    let parts = found (searchable_from_sorted nat_list_cmp_total (λ (k : Id16). k.0) ids x.0 (sorted_ids ids asc)) in
-    sym (list_any_none (λ y. id_eq y x) ids (λ k d lt. elim (cases_lt k i) [
-      | inl below ↦ texts_ties (get_or ids k d).0 x.0 ∙ ap is_eq (parts.0 k d (omega arith) below)
-      | inr above ↦ texts_ties (get_or ids k d).0 x.0 ∙ ap is_eq (parts.1 k d above lt)
-    ]))

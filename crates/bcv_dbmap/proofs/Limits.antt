@@ -253,12 +253,11 @@ applied_meets_limits m asked p id writer moment rules limits fits passes f =
         few_writers = few_writers_after writer id (m.number + 1) m.writers rules.writers limits.few_writers s.writers;
         few_dbs = few_dbs_after m.block p id m.dbs rules.dbs limits.few_dbs plan_passes;
         few_dead = le_trans dead s.dead;
-        short =
-            written_short 67108864 (length (applied m p id writer moment).writers) (length (applied m asked zero_id writer 0).writers) (total_length (applied m p id writer moment).dbs) (needed_total m.block (applied m p id writer moment).dbs) (needed_total m.block (applied m asked zero_id writer 0).dbs) (length (applied m p id writer moment).dead) (dead_length m asked)
-            (length_alike writer_id (record { id = writer; last = id; number = m.number + 1 }) (record { id = writer; last = zero_id; number = m.number + 1 }) m.writers refl)
-            (total_needed m.block (dbs_after p id m.dbs) (all_after (HasNeeded m.block) p id m.dbs (λ a is. made_needed m.block p id m.dbs a fits (each_needed m.block m.dbs rules.each_db) is) (each_needed m.block m.dbs rules.each_db)))
-            (fills_needed m.block asked p id zero_id m.dbs f)
-            dead
-            s.short;
       },
+      written_short 67108864 (length (applied m p id writer moment).writers) (length (applied m asked zero_id writer 0).writers) (total_length (applied m p id writer moment).dbs) (needed_total m.block (applied m p id writer moment).dbs) (needed_total m.block (applied m asked zero_id writer 0).dbs) (length (applied m p id writer moment).dead) (dead_length m asked)
+          (length_alike writer_id (record { id = writer; last = id; number = m.number + 1 }) (record { id = writer; last = zero_id; number = m.number + 1 }) m.writers refl)
+          (total_needed m.block (dbs_after p id m.dbs) (all_after (HasNeeded m.block) p id m.dbs (λ a is. made_needed m.block p id m.dbs a fits (each_needed m.block m.dbs rules.each_db) is) (each_needed m.block m.dbs rules.each_db)))
+          (fills_needed m.block asked p id zero_id m.dbs f)
+          dead
+          s.short,
     )

@@ -1,23 +1,18 @@
 -- The bytes that entries need.
-use Rattle.std.proofs.Common.{◌≡◌, ◌∙◌, ℕ, ◌+◌, ◌/◌, ◌^◌, ◌<◌, ◌≤◌, Bool, true, false, cond, List, [], ◌∷◌, ◌++◌, length, take, drop, get_or, refl, sym, ap, arith}
+use Rattle.std.proofs.Common.{◌≡◌, ◌∙◌, ℕ, ◌+◌, ◌*◌, ◌/◌, ◌^◌, ◌<◌, ◌≤◌, Bool, true, false, cond, List, [], ◌∷◌, ◌++◌, length, take, drop, get_or, refl, sym, ap, arith}
 use Rattle.std.specs.Prelude.{◌&&◌, nat_le}
-use Rattle.std.specs.List.{list_all}
+use Rattle.std.specs.List.{list_all, AllByRecursion}
 use Rattle.std.specs.Str.{bytes_eq}
-use Rattle.std.proofs.Math.Nat.{mul-le-mul_right}
 use Rattle.std.proofs.lemmas.Bool.{and_parts, leb-true}
 use Rattle.std.proofs.lemmas.List.{drop_more, take-append-drop}
 use Rattle.bcv_base.specs.declared.manifest.DbEntry.{DbEntry}
 use Rattle.bcv_base.specs.declared.manifest.Manifest.{Manifest}
 use Rattle.bcv_base.specs.Keyed.{with_keyed, without_keyed}
-use Rattle.bcv_base.specs.ManifestRules.{db_name, total_length, MeetsRules, MeetsLimits}
+use Rattle.bcv_base.specs.ManifestRules.{db_name, total_length, MeetsEntryRules, MeetsRules, MeetsLimits}
 use Rattle.bcv_base.specs.Names.{is_name, is_name_byte}
 use Rattle.bcv_dbmap.specs.Checked.{needed_length, needed_total}
 use Rattle.bcv_dbmap.proofs.Keys.{by_removal, without_here, without_there}
 use Rattle.bcv_dbmap.proofs.Limits.{total_needed, each_needed}
-
--- a quotient by a block size
-pub quotient_small : (x block : ℕ) → 512 ≤ block → x < 2 ^ 65 → x / block < 2 ^ 56
-quotient_small x block large small = omega (arith, mul-le-mul_right (x / block) large)
 
 pub name_short : (name : List ℕ) → is_name name ≡ true → length name ≤ 64
 name_short name h =
@@ -75,9 +70,20 @@ without_less block name (d ∷ ds) =
     let rest : needed_total block (without_keyed db_name name ds) ≤ needed_total block ds = without_less block name ds in
     by_removal db_name (λ (l : List DbEntry). needed_total block l ≤ needed_total block (d ∷ ds)) name d ds (λ t. omega arith) (λ t. omega arith)
 
+-- of entries that meet the rules: their names and fields, and 16 bytes a block
+total_within : (block : ℕ) (ds : List DbEntry) → AllByRecursion (MeetsEntryRules block) ds → total_length ds ≤ 1048665 * length ds
+total_within block [] all = omega arith
+total_within block (d ∷ ds) all =
+    let of_d : MeetsEntryRules block d = all.0 in
+    let name : length d.name ≤ 64 = name_short d.name of_d.name in
+    let few : length d.blocks ≤ 65536 = of_d.few in
+    let rest : total_length ds ≤ 1048665 * length ds = total_within block ds all.1 in
+    omega arith
+
 -- a manifest's entries
-pub manifest_needs : (m : Manifest) → MeetsRules m → MeetsLimits m → needed_total m.block m.dbs ≤ 67108864
+pub manifest_needs : (m : Manifest) → MeetsRules m → MeetsLimits m → needed_total m.block m.dbs < 2 ^ 60
 manifest_needs m rules limits =
     let same : total_length m.dbs ≡ needed_total m.block m.dbs = total_needed m.block m.dbs (each_needed m.block m.dbs rules.each_db) in
-    let short = limits.short in
+    let within : total_length m.dbs ≤ 1048665 * length m.dbs = total_within m.block m.dbs rules.each_db in
+    let few : length m.dbs ≤ 1024 = limits.few_dbs in
     omega arith

@@ -1,5 +1,5 @@
 -- What lawful entries of others keep: a sound history, and what is mine as it was.
-use Rattle.std.proofs.Common.{◌≡◌, ◌∙◌, ℕ, Bool, true, false, cond, List, [], ◌∷◌, Option, Some, None, refl, sym, ap, subst, ne_eqb, arith}
+use Rattle.std.proofs.Common.{◌≡◌, ◌∙◌, ℕ, Bool, true, false, cond, List, [], ◌∷◌, ◌++◌, Option, Some, None, refl, sym, ap, subst}
 use Rattle.bcv_base.specs.declared.id.Id16.{Id16}
 use Rattle.bcv_base.specs.declared.log.Entry.{Entry}
 use Rattle.bcv_base.specs.declared.manifest.Manifest.{Manifest}
@@ -8,17 +8,16 @@ use Rattle.bcv_base.specs.History.{Item, BlockPut, Published, Unreadable, BlockD
 use Rattle.bcv_base.specs.HistoryLaws.{id_eq-is, history_after-append}
 use Rattle.bcv_base.specs.Ids.{id_eq, has_id}
 use Rattle.bcv_base.specs.Image.{or_else}
-use Rattle.bcv_base.specs.ManifestRules.{writer_id, lists, MeetsWriterRules, MeetsRules}
+use Rattle.bcv_base.specs.ManifestRules.{lists, MeetsRules}
 use Rattle.bcv_dbmap.specs.Deletions.{IsDeletable}
 use Rattle.bcv_dbmap.specs.Growth.{Edits, Creates, Publishes, PutsNew, IsPublication, IsLawful, AreLawful, IsUntouched}
 use Rattle.bcv_dbmap.specs.Laws.{OthersKeepSound, OthersLeaveMine}
-use Rattle.bcv_dbmap.specs.Past.{was_listed, was_deleted, has_version, is_numbered, writer_of}
+use Rattle.bcv_dbmap.specs.Past.{was_listed, has_version, is_numbered, writer_of}
 use Rattle.bcv_dbmap.specs.Sound.{IsEditOf, IsFirst, Sound}
 use Rattle.bcv_dbmap.proofs.Bools.{neither_or, not_passed, not_both}
-use Rattle.bcv_dbmap.proofs.EditLaws.{edit_number, edit_writer}
-use Rattle.bcv_dbmap.proofs.Keys.{all_found}
-use Rattle.bcv_dbmap.proofs.PastLaws.{last_not, last_rules, expired_dead, dead_listed}
-use Rattle.bcv_dbmap.proofs.SoundLaws.{other_line, lawful_keeps_sound}
+use Rattle.bcv_dbmap.proofs.EditLaws.{edit_writer}
+use Rattle.bcv_dbmap.proofs.PastLaws.{last_not, last_rules}
+use Rattle.bcv_dbmap.proofs.SoundLaws.{other_line, line_below, lawful_keeps_sound}
 
 -- ---- what each lawful entry keeps, lawful entries keep
 
@@ -41,12 +40,11 @@ kept_by_all mine R same through one (e ∷ es) past s lawful =
 
 module _ (mine : List Id16) where
   nothing_touched : (a : List Item) → IsUntouched mine a a
-  nothing_touched a = record { unlisted = λ i is h. h; there = λ i is h g. g; bytes = λ i is. refl; unpublished = λ i is h. h; last = λ i is. refl }
+  nothing_touched a = record { unlisted = λ i is h. h; bytes = λ i is. refl; unpublished = λ i is h. h; last = λ i is. refl }
 
   untouched_through : (a b c : List Item) → IsUntouched mine a b → IsUntouched mine b c → IsUntouched mine a c
   untouched_through a b c u v = record {
     unlisted = λ i is h. v.unlisted i is (u.unlisted i is h);
-    there = λ i is h g. v.there i is (u.unlisted i is h) (u.there i is h g);
     bytes = λ i is. v.bytes i is ∙ u.bytes i is;
     unpublished = λ i is h. v.unpublished i is (u.unpublished i is h);
     last = λ i is. v.last i is ∙ u.last i is;
@@ -59,7 +57,6 @@ module _ (mine : List Id16) where
   put_leaves : (past : List Item) (j : Id16) (bytes : List ℕ) → PutsNew mine past j → IsUntouched mine past (BlockPut j bytes ∷ past)
   put_leaves past j bytes new = record {
     unlisted = λ i is h. h;
-    there = λ i is h g. g;
     bytes = λ i is. ap (λ (b : Bool). or_else (first_put past i) (cond b (Some bytes) None)) (other_id i j is new.not_mine) ∙ first_stays (first_put past i);
     unpublished = λ i is h. h;
     last = λ i is. refl;
@@ -69,12 +66,9 @@ module _ (mine : List Id16) where
       first_stays None = refl
       first_stays (Some b) = refl
 
-  deletion_leaves : (past : List Item) (j : Id16) (at : ℕ) → Sound past → IsDeletable past j at → IsUntouched mine past (BlockDeleted j at ∷ past)
-  deletion_leaves past j at s may = record {
+  deletion_leaves : (past : List Item) (j : Id16) (at : ℕ) → IsUntouched mine past (BlockDeleted j at ∷ past)
+  deletion_leaves past j at = record {
     unlisted = λ i is h. h;
-    there = λ i is h g. neither_or (id_eq j i) (was_deleted past i)
-        (not_passed (id_eq j i) (λ e. not_both (was_listed past j) (dead_listed past j s.made (expired_dead past j at may.expired)) (ap (λ (k : Id16). was_listed past k) (id_eq-is j i e) ∙ h)))
-        g;
     bytes = λ i is. refl;
     unpublished = λ i is h. h;
     last = λ i is. refl;
@@ -87,7 +81,6 @@ module _ (mine : List Id16) where
       → IsUntouched mine past (Published m ∷ past)
   manifest_leaves past m other unlisted unnumbered = record {
     unlisted = λ i is h. neither_or (lists m.dbs i) (was_listed past i) (unlisted i is h) h;
-    there = λ i is h g. g;
     bytes = λ i is. refl;
     unpublished = λ i is h. neither_or (id_eq m.id i) (has_version past i) (other_id i m.id is other) h;
     last = λ i is. other_line past m i (writer_of i m.writers) refl (unnumbered i is);
@@ -112,14 +105,7 @@ module _ (mine : List Id16) where
       (λ i is.
       ap (λ (o : Option Writer). is_numbered o m.number)
       (edit_writer old m e i ∙ ap (λ (b : Bool). cond b (Some line) (writer_of i old.writers)) (other_id i e.writer is x.another))
-      ∙ below (writer_of i old.writers) (λ w found. all_found writer_id (MeetsWriterRules old.number) i.0 old.writers w rules.each_writer found))
-    where
-      below : (o : Option Writer) → ((w : Writer) → o ≡ Some w → MeetsWriterRules old.number w) → is_numbered o m.number ≡ false
-      below None meets = refl
-      below (Some w) meets =
-          let of_w : MeetsWriterRules old.number w = meets w refl in
-          let later : w.number ≡ m.number → ⊥ = λ same. omega (arith, same, of_w.most, edit_number old m x.edit) in
-          ne_eqb w.number m.number later
+      ∙ line_below old m i e rules)
 
   publication_leaves : (past : List Item) (m : Manifest) → Sound past → IsPublication mine past m → IsUntouched mine past (Published m ∷ past)
   publication_leaves past m s p = leaves (last_of past) refl p.publishes
@@ -132,7 +118,7 @@ module _ (mine : List Id16) where
   one_leaves past (BlockPut j bytes) s l = put_leaves past j bytes l
   one_leaves past (Published m) s l = publication_leaves past m s l
   one_leaves past Unreadable s l = absurd l
-  one_leaves past (BlockDeleted j at) s l = deletion_leaves past j at s l
+  one_leaves past (BlockDeleted j at) s l = deletion_leaves past j at
   one_leaves past ManifestDeleted s l = absurd l
 
 pub others_leave_mine : OthersLeaveMine

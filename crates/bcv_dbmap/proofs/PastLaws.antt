@@ -12,7 +12,7 @@ use Rattle.bcv_base.specs.Keyed.{keyed}
 use Rattle.bcv_base.specs.ManifestRules.{dead_id, lists, is_dead, MeetsDeadRules, MeetsRules, MeetsLimits}
 use Rattle.bcv_base.specs.Versions.{IsVersion, Reads}
 use Rattle.bcv_dbmap.specs.Deletions.{IsDeletable, IsSafe}
-use Rattle.bcv_dbmap.specs.Past.{IsAmong, WasEntry, some_manifest, was_listed, was_dead, was_deleted, was_expired, is_old}
+use Rattle.bcv_dbmap.specs.Past.{IsAmong, WasEntry, some_manifest, was_listed, was_dead, was_deleted, was_expired, is_old, last_own}
 use Rattle.bcv_dbmap.specs.Sound.{IsFirst, Follows, IsMade, StaysDead}
 use Rattle.bcv_dbmap.proofs.Bools.{or_cases, or_left, or_right, not_passed, neither_or, not_both}
 use Rattle.bcv_dbmap.proofs.EditLaws.{edit_died}
@@ -66,6 +66,15 @@ no_count (Published k ∷ past) reads last = absurd cc
 no_count (Unreadable ∷ past) reads last = absurd reads.1
 no_count (BlockDeleted i at ∷ past) reads last = no_count past reads.0 last
 no_count (ManifestDeleted ∷ past) reads last = no_count past reads.0 last
+
+-- where there is none, no writer has an own one
+pub no_own : (past : List Item) (i : Id16) → last_of past ≡ None → last_own past i ≡ None
+no_own [] i last = refl
+no_own (BlockPut j bytes ∷ past) i last = no_own past i last
+no_own (Published k ∷ past) i last = absurd cc
+no_own (Unreadable ∷ past) i last = no_own past i last
+no_own (BlockDeleted j at ∷ past) i last = no_own past i last
+no_own (ManifestDeleted ∷ past) i last = no_own past i last
 
 -- what is said of the last one, of a given one
 pub of_last : (P : Manifest → Type 0) (past : List Item) (m : Manifest) → last_of past ≡ Some m → IfSome (last_of past) P → P m

@@ -6,6 +6,7 @@ use Rattle.std.proofs.lemmas.Option.{same_Some}
 use Rattle.std.specs.List.{AllByRecursion}
 use Rattle.bcv_base.specs.declared.id.Id16.{Id16}
 use Rattle.bcv_base.specs.declared.manifest.DbEntry.{DbEntry}
+use Rattle.bcv_base.specs.BlockCounts.{all_blocks}
 use Rattle.bcv_base.specs.Image.{or_else}
 use Rattle.bcv_base.specs.Keyed.{keyed, with_keyed, with_made}
 use Rattle.bcv_base.specs.ManifestRules.{writer_id, db_name, blocks_needed, MeetsEntryRules, MeetsRules, MeetsLimits}
@@ -16,7 +17,7 @@ use Rattle.bcv_dbmap.specs.declared.plan.EditPlan.{EditPlan}
 use Rattle.bcv_dbmap.specs.declared.plan.EditPlan.TheVariants as plan
 use Rattle.bcv_dbmap.specs.Applied.{applied, dbs_after}
 use Rattle.bcv_dbmap.specs.Checked.{zero_id, needed_length, needed_total, dead_length, result_length, upload_fault, plan_fault, size_fault}
-use Rattle.bcv_dbmap.specs.Room.{all_blocks, is_want_of_room, BringsFew, FullIsMany}
+use Rattle.bcv_dbmap.specs.Room.{is_want_of_room, BringsFew, FullIsMany}
 use Rattle.bcv_dbmap.proofs.Bools.{not_both}
 use Rattle.bcv_dbmap.proofs.Keys.{by_place, keyed_key, all_found}
 use Rattle.bcv_dbmap.proofs.Limits.{few_writers_after}

@@ -36,7 +36,8 @@ first_meets_rules block retention id writer moment is_block retention_fits momen
     dead = tt;
     each_dead = tt;
   },
-  record { few_writers = omega arith; few_dbs = omega arith; few_dead = omega arith; short = omega arith },
+  record { few_writers = omega arith; few_dbs = omega arith; few_dead = omega arith },
+  omega arith,
 )
 
 -- ---- entries

@@ -1,6 +1,6 @@
 -- A sound history stays sound under each lawful entry: clause by clause, by the entry's kind.
 use Rattle.std.proofs.Common.{◌≡◌, ◌∙◌, ℕ, ◌+◌, Bool, true, false, cond, ◌||◌, ◌⊎◌, inl, inr, List, ◌∷◌, Option, Some, None, is_some, IfSome, bytes_eq, refl, sym, ap, ap₂, subst, eq-eqb, ne_eqb, arith}
-use Rattle.std.proofs.lemmas.Option.{same_Some, cond_some, IfSome_then}
+use Rattle.std.proofs.lemmas.Option.{same_Some, IfSome_then}
 use Rattle.bcv_base.specs.declared.id.Id16.{Id16}
 use Rattle.bcv_base.specs.declared.manifest.DbEntry.{DbEntry}
 use Rattle.bcv_base.specs.declared.manifest.Manifest.{Manifest}
@@ -14,13 +14,13 @@ use Rattle.bcv_dbmap.specs.Applied.{made_entry, swept_ids}
 use Rattle.bcv_dbmap.specs.Deletions.{IsDeletable}
 use Rattle.bcv_dbmap.specs.Growth.{Edits, Creates, Publishes, PutsNew, IsPublication}
 use Rattle.bcv_dbmap.specs.Laws.{EmptyIsSound, LawfulKeepsSound}
-use Rattle.bcv_dbmap.specs.Past.{IsAmong, WasEntry, Publication, was_listed, was_dead, was_deleted, has_version, is_numbered, last_own, writer_of}
+use Rattle.bcv_dbmap.specs.Past.{IsAmong, WasEntry, Publication, was_listed, was_dead, was_deleted, has_version, is_numbered, told_by, last_own, writer_of}
 use Rattle.bcv_dbmap.specs.Sound.{IsEditOf, IsFirst, Follows, ArePresent, AreAccounted, AreLast, Sound}
 use Rattle.bcv_dbmap.proofs.Bools.{or_cases, or_left, or_right, neither_or, not_passed, not_both}
 use Rattle.bcv_dbmap.proofs.EditLaws.{edit_number, edit_block, edit_entry, edit_leaves, edit_keeps, edit_writer}
 use Rattle.bcv_dbmap.proofs.Entries.{made_tag}
 use Rattle.bcv_dbmap.proofs.Keys.{by_test, all_found}
-use Rattle.bcv_dbmap.proofs.PastLaws.{last_entry, last_dead, last_rules, of_last, no_last, no_count, deleted_dead}
+use Rattle.bcv_dbmap.proofs.PastLaws.{last_entry, last_dead, last_rules, of_last, no_last, no_own, no_count, deleted_dead}
 
 pub empty_is_sound : EmptyIsSound
 empty_is_sound = record {
@@ -168,13 +168,18 @@ other_line past m i o found other =
 
 -- ---- a first manifest
 
-first_last : (past : List Item) (m : Manifest) → IsFirst m → AreLast (Published m ∷ past) m
-first_last past m f i w found =
+first_last : (past : List Item) (m : Manifest) → last_of past ≡ None → IsFirst m → AreLast (Published m ∷ past) m
+first_last past m none f i =
     let line : Writer = record { id = f.writer; last = m.id; number = 1 } in
     let number : m.number ≡ 1 = ap (λ (k : Manifest). k.number) f.made in
     let lines : writer_of i m.writers ≡ cond (bytes_eq f.writer.0 i.0) (Some line) None = ap (λ (k : Manifest). writer_of i k.writers) f.made in
-    let is : line ≡ w = (cond_some (bytes_eq f.writer.0 i.0) line w (sym lines ∙ found)).1 in
-    own_line past m i w found (ap (λ (v : Writer). v.last) (sym is)) (ap (λ (v : Writer). v.number) (sym is) ∙ sym number)
+    by_test (bytes_eq f.writer.0 i.0)
+    (λ own.
+    let is : writer_of i m.writers ≡ Some line = lines ∙ ap (λ (b : Bool). cond b (Some line) None) own in
+    own_line past m i line is refl (sym number) ∙ sym (ap told_by is))
+    (λ another.
+    let is : writer_of i m.writers ≡ None = lines ∙ ap (λ (b : Bool). cond b (Some line) None) another in
+    other_line past m i None is refl ∙ no_own past i none ∙ sym (ap told_by is))
 
 first_extends : (mine : List Id16) (past : List Item) (m : Manifest) → Sound past → last_of past ≡ None → Creates mine m → Extends past m
 first_extends mine past m s none c =
@@ -190,24 +195,32 @@ first_extends mine past m s none c =
       made = None;
       entries = λ d among. absurd (subst (λ (k : Manifest). IsAmong d k.dbs) f.made among);
       tag = λ d e. absurd cc;
-      last = first_last past m f;
+      last = first_last past m none f;
     }
 
 -- ---- an edit
 
+-- no line of the old table has the number of the edit
+pub line_below : (old m : Manifest) (i : Id16) → IsEditOf old m → MeetsRules old → is_numbered (writer_of i old.writers) m.number ≡ false
+line_below old m i e rules = below (writer_of i old.writers) (λ w found. all_found writer_id (MeetsWriterRules old.number) i.0 old.writers w rules.each_writer found)
+  where
+    below : (o : Option Writer) → ((w : Writer) → o ≡ Some w → MeetsWriterRules old.number w) → is_numbered o m.number ≡ false
+    below None meets = refl
+    below (Some w) meets =
+        let of_w : MeetsWriterRules old.number w = meets w refl in
+        let later : w.number ≡ m.number → ⊥ = λ same. omega (arith, same, of_w.most, edit_number old m e) in
+        ne_eqb w.number m.number later
+
 edit_last : (past : List Item) (old m : Manifest) → IsEditOf old m → MeetsRules old → AreLast past old → AreLast (Published m ∷ past) m
-edit_last past old m e rules before i w found =
+edit_last past old m e rules before i =
+    let line : Writer = record { id = e.writer; last = m.id; number = m.number } in
     by_test (bytes_eq e.writer.0 i.0)
     (λ own.
-    let line : Writer = record { id = e.writer; last = m.id; number = m.number } in
-    let is : line ≡ w = same_Some line w (sym (edit_writer old m e i ∙ ap (λ (b : Bool). cond b (Some line) (writer_of i old.writers)) own) ∙ found) in
-    own_line past m i w found (ap (λ (v : Writer). v.last) (sym is)) (ap (λ (v : Writer). v.number) (sym is)))
+    let is : writer_of i m.writers ≡ Some line = edit_writer old m e i ∙ ap (λ (b : Bool). cond b (Some line) (writer_of i old.writers)) own in
+    own_line past m i line is refl refl ∙ sym (ap told_by is))
     (λ another.
-    let line : Writer = record { id = e.writer; last = m.id; number = m.number } in
-    let was : writer_of i old.writers ≡ Some w = sym (edit_writer old m e i ∙ ap (λ (b : Bool). cond b (Some line) (writer_of i old.writers)) another) ∙ found in
-    let of_w : MeetsWriterRules old.number w = all_found writer_id (MeetsWriterRules old.number) i.0 old.writers w rules.each_writer was in
-    let later : w.number ≡ m.number → ⊥ = λ same. omega (arith, same, of_w.most, edit_number old m e) in
-    other_line past m i (Some w) found (ne_eqb w.number m.number later) ∙ before i w was)
+    let is : writer_of i m.writers ≡ writer_of i old.writers = edit_writer old m e i ∙ ap (λ (b : Bool). cond b (Some line) (writer_of i old.writers)) another in
+    other_line past m i (writer_of i old.writers) is (line_below old m i e rules) ∙ before i ∙ sym (ap told_by is))
 
 edit_extends : (mine : List Id16) (past : List Item) (old m : Manifest) → Sound past → last_of past ≡ Some old → Edits mine past old m → Extends past m
 edit_extends mine past old m s last x =

@@ -88,7 +88,7 @@ nothing_tried number id least small is_id = record {
     dead = tt;
     each_dead = tt;
   };
-  limits = record { few_writers = lit≤ tt; few_dbs = lit≤ tt; few_dead = lit≤ tt; short = lit≤ tt };
+  limits = record { few_writers = lit≤ tt; few_dbs = lit≤ tt; few_dead = lit≤ tt };
   block = refl;
 }
 

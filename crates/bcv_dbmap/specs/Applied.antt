@@ -75,11 +75,9 @@ writers_after writer id number ws = with_keyed writer_id (record { id = writer; 
 
 -- the manifest that a plan makes of another one, under an id, by a writer, at a moment
 abbrev pub applied : Manifest → EditPlan → Id16 → Id16 → ℕ → Manifest
-applied m p id writer moment = record {
+applied m p id writer moment = record m {
   number = m.number + 1;
   moment = max m.moment moment;
-  block = m.block;
-  retention = m.retention;
   id = id;
   writers = writers_after writer id (m.number + 1) m.writers;
   dbs = dbs_after p id m.dbs;

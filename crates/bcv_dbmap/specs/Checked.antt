@@ -7,7 +7,8 @@ use Rattle.bcv_base.specs.declared.manifest.Manifest.{Manifest}
 use Rattle.bcv_base.specs.Ids.{id_eq}
 use Rattle.bcv_base.specs.Image.{or_else}
 use Rattle.bcv_base.specs.Keyed.{keyed}
-use Rattle.bcv_base.specs.ManifestRules.{db_name, writer_id, blocks_needed}
+use Rattle.bcv_base.specs.ManifestRules.{db_name, writer_id, blocks_needed, length_of}
+use Rattle.bcv_base.specs.SizeLimits.{most_writers, most_databases, most_blocks, most_dead, most_bytes}
 use Rattle.bcv_dbmap.specs.declared.fault.EditFault.{EditFault}
 use Rattle.bcv_dbmap.specs.declared.fault.EditFault.TheVariants as fault
 use Rattle.bcv_dbmap.specs.declared.plan.EditPlan.{EditPlan}
@@ -20,8 +21,8 @@ abbrev pub new_fault : ℕ → List DbEntry → DbEntry → Option EditFault
 new_fault block dbs e =
     if is_some (keyed db_name e.name dbs) then Some fault.Exists
     else (if nat_lt block e.page_size then Some fault.PageTooLarge
-    else (if nat_lt 65536 (blocks_needed block e.page_size e.pages) then Some fault.TooLarge
-    else (if nat_le 1024 (length dbs) then Some fault.TooManyDatabases else None)))
+    else (if nat_lt most_blocks (blocks_needed block e.page_size e.pages) then Some fault.TooLarge
+    else (if nat_le most_databases (length dbs) then Some fault.TooManyDatabases else None)))
 
 -- the database is there, with the tag on which the upload stands
 abbrev pub upload_fault : Option DbEntry → Id16 → Option EditFault
@@ -32,7 +33,7 @@ abbrev pub copy_fault : List DbEntry → List ℕ → List ℕ → Option EditFa
 copy_fault dbs from to =
     if is_none (keyed db_name from dbs) then Some fault.NoDatabase
     else (if is_some (keyed db_name to dbs) then Some fault.Exists
-    else (if nat_le 1024 (length dbs) then Some fault.TooManyDatabases else None))
+    else (if nat_le most_databases (length dbs) then Some fault.TooManyDatabases else None))
 
 abbrev pub plan_fault : ℕ → List DbEntry → EditPlan → Option EditFault
 plan_fault block dbs (plan.New e) = new_fault block dbs e
@@ -73,13 +74,13 @@ needed_total block (d ∷ ds) = needed_length block d + needed_total block ds
 -- the bytes of the result
 abbrev pub result_length : Manifest → EditPlan → Id16 → ℕ
 result_length m p writer =
-    64 + 40 * length (applied m p zero_id writer 0).writers + needed_total m.block (applied m p zero_id writer 0).dbs + 24 * dead_length m p
+    length_of (length (applied m p zero_id writer 0).writers) (needed_total m.block (applied m p zero_id writer 0).dbs) (dead_length m p)
 
 abbrev pub size_fault : Manifest → EditPlan → Id16 → Option EditFault
 size_fault m p writer =
-    if is_none (keyed writer_id writer.0 m.writers) && nat_le 4096 (length m.writers) then Some fault.WritersFull
-    else (if nat_lt 1048576 (dead_length m p) then Some fault.DeleteListFull
-    else (if nat_lt 67108864 (result_length m p writer) then Some fault.ManifestTooLong else None))
+    if is_none (keyed writer_id writer.0 m.writers) && nat_le most_writers (length m.writers) then Some fault.WritersFull
+    else (if nat_lt most_dead (dead_length m p) then Some fault.DeleteListFull
+    else (if nat_lt most_bytes (result_length m p writer) then Some fault.ManifestTooLong else None))
 
 -- ---- the first fault
 

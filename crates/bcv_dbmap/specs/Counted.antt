@@ -9,6 +9,7 @@ use Rattle.bcv_dbmap.specs.declared.fault.EditFault.{EditFault}
 use Rattle.bcv_dbmap.specs.declared.fault.EditFault.TheVariants as fault
 use Rattle.bcv_base.specs.Keyed.{keyed}
 use Rattle.bcv_base.specs.ManifestRules.{db_name}
+use Rattle.bcv_base.specs.SizeLimits.{most_dead, most_bytes}
 use Rattle.bcv_dbmap.specs.declared.plan.EditPlan.{EditPlan}
 use Rattle.bcv_dbmap.specs.declared.plan.EditPlan.TheVariants as plan
 use Rattle.bcv_dbmap.specs.Checked.{zero_id}
@@ -36,4 +37,4 @@ gone_length (plan.Sweep ids) dbs = 0
 
 -- why a result of so many dead blocks, and of so many bytes beside them, is too large, or none
 abbrev pub too_large : ℕ → ℕ → Option EditFault
-too_large bytes dead = if nat_lt 1048576 dead then Some fault.DeleteListFull else (if nat_lt 67108864 (bytes + 24 * dead) then Some fault.ManifestTooLong else None)
+too_large bytes dead = if nat_lt most_dead dead then Some fault.DeleteListFull else (if nat_lt most_bytes (bytes + 24 * dead) then Some fault.ManifestTooLong else None)

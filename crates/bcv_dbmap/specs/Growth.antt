@@ -1,9 +1,9 @@
 -- How others make a log grow: lawful entries. The names that are mine are a list of ids, of writers, publications and blocks.
-use Rattle.std.specs.Prelude.{◌≡◌, ◌≤◌, ℕ, true, false, List, [], ◌∷◌, ◌++◌, length, Option, Some, None}
+use Rattle.std.specs.Prelude.{◌≡◌, ℕ, true, false, List, [], ◌∷◌, Option, Some, None}
 use Rattle.bcv_base.specs.declared.id.Id16.{Id16}
 use Rattle.bcv_base.specs.declared.log.Entry.{Entry}
 use Rattle.bcv_base.specs.declared.manifest.Manifest.{Manifest}
-use Rattle.bcv_base.specs.History.{Item, BlockPut, Published, Unreadable, BlockDeleted, ManifestDeleted, HasBlock, last_of, first_put, item_of, history_of}
+use Rattle.bcv_base.specs.History.{Item, BlockPut, Published, Unreadable, BlockDeleted, ManifestDeleted, HasBlock, last_of, first_put, item_of}
 use Rattle.bcv_base.specs.Ids.{has_id}
 use Rattle.bcv_base.specs.ManifestRules.{MeetsRules, MeetsLimits, lists}
 use Rattle.bcv_dbmap.specs.Applied.{swept_ids}
@@ -67,19 +67,10 @@ abbrev pub AreLawful : List Id16 → List Item → List Entry → Type 0
 AreLawful mine past [] = Unit {0}
 AreLawful mine past (e ∷ es) = IsLawful mine past (item_of e) × AreLawful mine (item_of e ∷ past) es
 
--- a log is followed by lawful entries of others and then by at most one own
-pub record Grows (mine : List Id16) (log grown : List Entry) : Type 0 where
-  pub others : List Entry
-  pub own : List Entry
-  pub is : grown ≡ (log ++ others) ++ own
-  pub lawful : AreLawful mine (history_of log) others
-  pub one : length own ≤ 1
-
--- what others leave as it was: an unlisted block of mine stays unlisted and there, with its bytes; an id of mine that is no
--- version stays none; and the last publication of a writer who is mine stays the last
+-- what others leave as it was: an unlisted block of mine stays unlisted, with its bytes; an id of mine that is no version
+-- stays none; and the last publication of a writer who is mine stays the last
 pub record IsUntouched (mine : List Id16) (past later : List Item) : Type 0 where
   pub unlisted : (i : Id16) → has_id i mine ≡ true → was_listed past i ≡ false → was_listed later i ≡ false
-  pub there : (i : Id16) → has_id i mine ≡ true → was_listed past i ≡ false → was_deleted past i ≡ false → was_deleted later i ≡ false
   pub bytes : (i : Id16) → has_id i mine ≡ true → first_put later i ≡ first_put past i
   pub unpublished : (i : Id16) → has_id i mine ≡ true → has_version past i ≡ false → has_version later i ≡ false
   pub last : (i : Id16) → has_id i mine ≡ true → last_own later i ≡ last_own past i

@@ -1,15 +1,18 @@
 -- The laws of edits and of sound histories.
-use Rattle.std.specs.Prelude.{◌≡◌, ◌<◌, ◌^◌, ℕ, true, false, List, [], ◌∷◌, ◌++◌, Some, None}
+use Rattle.std.specs.Prelude.{◌≡◌, ◌<◌, ◌^◌, ℕ, Bool, true, false, List, [], ◌∷◌, ◌++◌, Some, None, Ok}
 use Rattle.bcv_base.specs.declared.id.Id16.{Id16}
 use Rattle.bcv_base.specs.declared.log.Entry.{Entry}
+use Rattle.bcv_base.specs.declared.log.Entry.TheVariants as entry
 use Rattle.bcv_base.specs.declared.manifest.DbEntry.{DbEntry}
 use Rattle.bcv_base.specs.declared.manifest.Manifest.{Manifest}
+use Rattle.bcv_base.specs.declared.object.ObjName.TheVariants as object
 use Rattle.bcv_base.specs.Edits.{edited, created}
-use Rattle.bcv_base.specs.History.{Item, Published, Always, last_of, history_of}
+use Rattle.bcv_base.specs.History.{Item, Published, HasBlock, Always, last_of, history_of}
 use Rattle.bcv_base.specs.Ids.{has_id, IsId}
-use Rattle.bcv_base.specs.ManifestRules.{MeetsRules, MeetsLimits, lists, is_block_size}
+use Rattle.bcv_base.specs.ManifestGrammar.{manifest_of}
+use Rattle.bcv_base.specs.ManifestRules.{MeetsRules, MeetsLimits, IsShort, lists, is_block_size}
 use Rattle.bcv_base.specs.Version.{Version}
-use Rattle.bcv_base.specs.Versions.{version_of, versions_of, Reads}
+use Rattle.bcv_base.specs.Versions.{version_of, versions_of, Reads, HasVersions}
 use Rattle.bcv_dbmap.specs.declared.plan.EditPlan.{EditPlan}
 use Rattle.bcv_dbmap.specs.Applied.{applied, first_manifest, edit_of, swept_ids, FitsPlan}
 use Rattle.bcv_dbmap.specs.Checked.{checked}
@@ -34,11 +37,34 @@ FirstCreates =
     (past : List Item) (block retention : ℕ) (id writer : Id16) (moment : ℕ) → Always Reads past → last_of past ≡ None
     → versions_of (Published (first_manifest block retention id writer moment) ∷ past) ≡ created id moment ∷ []
 
--- a first manifest meets the rules and the limits
+-- the put of such a manifest is not refused, where the plan passes and fits, and each block that is newly listed was put with
+-- the block size: the versions have that edit more
+abbrev pub AppliedHasVersions : Type 0
+AppliedHasVersions =
+    (log : List Entry) (versions : List Version) (old : Manifest) (plan : EditPlan) (id writer : Id16) (moment : ℕ) (own : Bool) (bytes : List ℕ) (etag : ℕ)
+    → HasVersions log versions → last_of (history_of log) ≡ Some old → checked old plan writer ≡ None → FitsPlan old.block plan
+    → moment < 2 ^ 64 → IsId id → IsId writer
+    → ((i : Id16) → lists (applied old plan id writer moment).dbs i ≡ true → lists old.dbs i ≡ false → HasBlock (history_of log) i old.block)
+    → manifest_of bytes ≡ Ok (applied old plan id writer moment)
+    → HasVersions (log ++ entry.Put own object.Manifest bytes etag ∷ []) (versions ++ edited (version_of (history_of log) old) (edit_of (history_of log) plan) id moment ∷ [])
+
+-- the put of a first manifest is not refused: there is one version, with no database
+abbrev pub FirstHasVersions : Type 0
+FirstHasVersions =
+    (log : List Entry) (block retention : ℕ) (id writer : Id16) (moment : ℕ) (own : Bool) (bytes : List ℕ) (etag : ℕ)
+    → HasVersions log [] → last_of (history_of log) ≡ None → is_block_size block ≡ true → retention < 2 ^ 64 → moment < 2 ^ 64 → IsId id → IsId writer
+    → manifest_of bytes ≡ Ok (first_manifest block retention id writer moment)
+    → HasVersions (log ++ entry.Put own object.Manifest bytes etag ∷ []) (created id moment ∷ [])
+
+-- a plan fills itself
+abbrev pub FillsItself : Type 0
+FillsItself = (plan : EditPlan) → Fills plan plan
+
+-- a first manifest meets the rules and the limits, and is short
 abbrev pub FirstMeetsRules : Type 0
 FirstMeetsRules =
     (block retention : ℕ) (id writer : Id16) (moment : ℕ) → is_block_size block ≡ true → retention < 2 ^ 64 → moment < 2 ^ 64 → IsId id → IsId writer
-    → MeetsRules (first_manifest block retention id writer moment) × MeetsLimits (first_manifest block retention id writer moment)
+    → MeetsRules (first_manifest block retention id writer moment) × MeetsLimits (first_manifest block retention id writer moment) × IsShort (first_manifest block retention id writer moment)
 
 -- what is applied meets the rules
 abbrev pub AppliedMeetsRules : Type 0
@@ -46,11 +72,11 @@ AppliedMeetsRules =
     (m : Manifest) (plan : EditPlan) (id writer : Id16) (moment : ℕ) → MeetsRules m → FitsPlan m.block plan → checked m plan writer ≡ None
     → moment < 2 ^ 64 → IsId id → IsId writer → MeetsRules (applied m plan id writer moment)
 
--- what passes with zeros passes with any ids in their place, and what is applied then keeps within the limits
+-- what passes with zeros passes with any ids in their place, and what is applied then keeps within the limits and is short
 abbrev pub AppliedMeetsLimits : Type 0
 AppliedMeetsLimits =
     (m : Manifest) (asked plan : EditPlan) (id writer : Id16) (moment : ℕ) → MeetsRules m → MeetsLimits m → FitsPlan m.block plan
-    → checked m asked writer ≡ None → Fills asked plan → (checked m plan writer ≡ None) × MeetsLimits (applied m plan id writer moment)
+    → checked m asked writer ≡ None → Fills asked plan → (checked m plan writer ≡ None) × MeetsLimits (applied m plan id writer moment) × IsShort (applied m plan id writer moment)
 
 -- ---- sound histories
 

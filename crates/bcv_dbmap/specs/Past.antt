@@ -90,6 +90,11 @@ pub record Publication : Type 0 where
   pub id : Id16
   pub number : ℕ
 
+-- the publication that a writer's line tells, where there is a line
+abbrev pub told_by : Option Writer → Option Publication
+told_by None = None
+told_by (Some w) = Some (record { id = w.last; number = w.number })
+
 -- the last manifest that is the writer's own
 abbrev pub last_own : List Item → Id16 → Option Publication
 last_own [] i = None

@@ -4,7 +4,6 @@ use Rattle.bcv_base.specs.declared.id.Id16.{Id16}
 use Rattle.bcv_base.specs.declared.log.Entry.{Entry}
 use Rattle.bcv_base.specs.declared.manifest.DbEntry.{DbEntry}
 use Rattle.bcv_base.specs.declared.manifest.Manifest.{Manifest}
-use Rattle.bcv_base.specs.declared.manifest.Writer.{Writer}
 use Rattle.bcv_base.specs.History.{Item, BlockPut, Published, Unreadable, BlockDeleted, ManifestDeleted, Always, last_of, first_put, history_of}
 use Rattle.bcv_base.specs.ManifestRules.{lists, is_dead}
 use Rattle.bcv_base.specs.Versions.{Reads}
@@ -12,7 +11,7 @@ use Rattle.bcv_dbmap.specs.declared.plan.EditPlan.{EditPlan}
 use Rattle.bcv_dbmap.specs.Applied.{applied, first_manifest, FitsPlan}
 use Rattle.bcv_dbmap.specs.Checked.{checked}
 use Rattle.bcv_dbmap.specs.Deletions.{SafeDeletions}
-use Rattle.bcv_dbmap.specs.Past.{was_listed, was_dead, was_deleted, has_version, WasEntry, writer_of, last_own}
+use Rattle.bcv_dbmap.specs.Past.{was_listed, was_dead, was_deleted, has_version, WasEntry, writer_of, told_by, last_own}
 
 -- ---- of each entry, over what stands before it
 
@@ -87,9 +86,9 @@ ArePresent past m = (i : Id16) → lists m.dbs i ≡ true → (is_some (first_pu
 abbrev pub AreAccounted : List Item → Manifest → Type 0
 AreAccounted past m = (i : Id16) → was_listed past i ≡ true → (lists m.dbs i || (is_dead m.dead i || was_deleted past i)) ≡ true
 
--- each line of the writers table has id and number of the last manifest that is that writer's own
+-- the writers table tells of each writer the last manifest that is that writer's own: there is a line exactly where there is one
 abbrev pub AreLast : List Item → Manifest → Type 0
-AreLast past m = (i : Id16) (w : Writer) → writer_of i m.writers ≡ Some w → last_own past i ≡ Some (record { id = w.last; number = w.number })
+AreLast past m = (i : Id16) → last_own past i ≡ told_by (writer_of i m.writers)
 
 -- ---- the whole
 

@@ -13,19 +13,10 @@ use crate::databases::database_of;
 use crate::dead::leaving;
 use crate::fault::EditFault;
 use crate::plan::EditPlan;
-use crate::sizes::{blocks_needed, needed_after};
+use crate::sizes::needed_after;
 use crate::writers::line_count;
-use bcv_base::{DbEntry, DbName, Id16, Manifest};
-
-const MOST_WRITERS: usize = 4_096;
-
-const MOST_DATABASES: usize = 1_024;
-
-const MOST_BLOCKS: u64 = 65_536;
-
-const MOST_DEAD: u64 = 1_048_576;
-
-const MOST_BYTES: u64 = 67_108_864;
+use bcv_base::limits::{MOST_BLOCKS, MOST_BYTES, MOST_DATABASES, MOST_DEAD, MOST_WRITERS};
+use bcv_base::{DbEntry, DbName, Id16, Manifest, blocks_needed};
 
 fn check_new(block: u32, dbs: &[DbEntry], entry: &DbEntry) -> Result<(), EditFault>
     requires { 512 ≤ block }
@@ -37,10 +28,10 @@ fn check_new(block: u32, dbs: &[DbEntry], entry: &DbEntry) -> Result<(), EditFau
     if entry.page_size > block {
         return Err(EditFault::PageTooLarge);
     }
-    if blocks_needed(block, entry.page_size, entry.pages) > MOST_BLOCKS {
+    if blocks_needed(block, entry.page_size, entry.pages) > u64::from(MOST_BLOCKS) {
         return Err(EditFault::TooLarge);
     }
-    if dbs.len() >= MOST_DATABASES {
+    if dbs.len() >= MOST_DATABASES as usize {
         return Err(EditFault::TooManyDatabases);
     }
     Ok(())
@@ -70,7 +61,7 @@ fn check_copy(dbs: &[DbEntry], from: &DbName, to: &DbName) -> Result<(), EditFau
     if database_of(dbs, to).is_some() {
         return Err(EditFault::Exists);
     }
-    if dbs.len() >= MOST_DATABASES {
+    if dbs.len() >= MOST_DATABASES as usize {
         return Err(EditFault::TooManyDatabases);
     }
     Ok(())
@@ -105,10 +96,10 @@ fn check_lengths(bytes: u64, dead: u64) -> Result<(), EditFault>
     requires dead { dead < 2 ^ 32 }
     ensures { MatchResult result (λ _. too_large bytes dead ≡ None) (λ f. too_large bytes dead ≡ Some f) }
 {
-    if dead > MOST_DEAD {
+    if dead > u64::from(MOST_DEAD) {
         return Err(EditFault::DeleteListFull);
     }
-    if bytes + 24 * dead > MOST_BYTES {
+    if bytes + 24 * dead > u64::from(MOST_BYTES) {
         return Err(EditFault::ManifestTooLong);
     }
     Ok(())
@@ -126,7 +117,7 @@ fn bytes_beside(m: &Manifest, plan: &EditPlan, writer: &Id16) -> u64
 }
 
 // At most how many dead blocks the result has: those of the manifest, and all blocks of the database that goes.
-fn most_dead(m: &Manifest, plan: &EditPlan) -> u64
+fn dead_bound(m: &Manifest, plan: &EditPlan) -> u64
     requires rules { MeetsRules m.now }
     requires limits { MeetsLimits m.now }
     ensures value { result ≡ length m.now.dead + length (leaving plan.now m.now.dbs) }
@@ -142,11 +133,11 @@ fn check_size(m: &Manifest, plan: &EditPlan, writer: &Id16) -> Result<(), EditFa
     requires passes { plan_fault m.now.block m.now.dbs plan.now ≡ None }
     ensures { MatchResult result (λ _. size_fault m.now plan.now writer.now ≡ None) (λ f. size_fault m.now plan.now writer.now ≡ Some f) }
 {
-    if line_count(m.writers.items(), writer) > MOST_WRITERS {
+    if line_count(m.writers.items(), writer) > MOST_WRITERS as usize {
         return Err(EditFault::WritersFull);
     }
     let bytes = bytes_beside(m, plan, writer);
-    if check_lengths(bytes, most_dead(m, plan)).is_ok() {
+    if check_lengths(bytes, dead_bound(m, plan)).is_ok() {
         return Ok(());
     }
     // Near a limit it counts exactly.

@@ -11,10 +11,10 @@ ghost use Rattle.bcv_dbmap.specs.Checked.{plan_fault};
 ghost use Rattle.bcv_dbmap.specs.Merged.{blocks_of, leaving, taken_off, with_dead, dead_of, step_of, own_key};
 
 use crate::databases::database_of;
-use crate::ids::{distinct, is_one_of};
+use crate::ids::distinct;
 use crate::marks::unlisted;
 use crate::plan::EditPlan;
-use bcv_base::{DbEntry, DbName, Dead, Id16, Manifest};
+use bcv_base::{DbEntry, DbName, Dead, Id16, Manifest, is_one_of};
 use std::alloc::{AllocError, Global};
 use std::cmp::Ordering;
 

@@ -1,12 +1,9 @@
 //! Ids that are sorted, and each there once.
 
-ghost use Rattle.std.specs.Prelude.{◌≡◌, ◌≤◌, IfOk, true, length, take, IsSorted};
-ghost use Rattle.std.specs.Cmp.Lexicographic.{slice_cmp};
+ghost use Rattle.std.specs.Prelude.{◌≡◌, ◌≤◌, IfOk, true, length, take};
 ghost use Rattle.std.specs.List.{dedup};
-ghost use Rattle.std.specs.Ordering.{nat_cmp};
-ghost use Rattle.bcv_base.specs.Ids.{has_id, id_eq};
-ghost use Rattle.bcv_base.specs.ManifestRules.{Ascends};
-ghost use Rattle.bcv_dbmap.specs.Merged.{chosen, own_key};
+ghost use Rattle.bcv_base.specs.Ids.{id_eq};
+ghost use Rattle.bcv_dbmap.specs.Merged.{chosen};
 
 use bcv_base::Id16;
 use std::alloc::{AllocError, Global};
@@ -47,12 +44,4 @@ pub(crate) fn distinct(alloc: Global, ids: &[Id16]) -> Result<Vec<Id16>, AllocEr
     let kept = sort_and_pack(&mut sorted);
     sorted.truncate(kept);
     Ok(sorted)
-}
-
-/// Whether the id is one of these, which ascend.
-pub(crate) fn is_one_of(ids: &[Id16], id: &Id16) -> bool
-    requires { Ascends own_key ids.now }
-    ensures { result ≡ has_id id.now ids.now }
-{
-    ids.binary_search(id).is_ok()
 }

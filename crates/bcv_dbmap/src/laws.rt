@@ -7,7 +7,10 @@ ghost use Rattle.bcv_dbmap.specs.Sound.{Sound};
 ghost use Rattle.bcv_dbmap.specs.Worked.{block, zeros, created, made, until_removed, life};
 ghost use Rattle.bcv_dbmap.specs.Laws.{
   AppliedAppendsEdit,
+  AppliedHasVersions,
+  FillsItself,
   FirstCreates,
+  FirstHasVersions,
   FirstMeetsRules,
   AppliedMeetsRules,
   AppliedMeetsLimits,
@@ -23,18 +26,21 @@ ghost use Rattle.bcv_dbmap.specs.Laws.{
 ghost use Rattle.bcv_dbmap.specs.Room.{FullIsMany};
 
 /// What a plan makes of the last manifest, published behind its new blocks, appends the plan's edit to the versions. The
-/// publish engine says with it which version its put made, and the world that the put is the machine's edit.
+/// publish engine says with it which version its put made, and the world that the put is the machine's edit. Where the plan
+/// passes and fits, such a put is not refused.
 pub fn applied_appends_edit()
-    ensures { AppliedAppendsEdit }
+    ensures appends { AppliedAppendsEdit }
+    ensures stands { AppliedHasVersions }
 {}
 
 /// A first manifest makes the first version, with no database. For the publish engine's first put of a container, and for
 /// the world's create.
 pub fn first_creates()
-    ensures { FirstCreates }
+    ensures creates { FirstCreates }
+    ensures stands { FirstHasVersions }
 {}
 
-/// A first manifest meets the rules and the limits of a manifest. The publish engine may write it by this.
+/// A first manifest meets the rules and the limits of a manifest, and is short. The publish engine may write it by this.
 pub fn first_meets_rules()
     ensures { FirstMeetsRules }
 {}
@@ -45,9 +51,14 @@ pub fn applied_meets_rules()
 {}
 
 /// A plan that passes with zeros in place of ids passes with any ids in their place, and what is applied then keeps within
-/// the limits. The publish engine checks a plan by this before it puts the blocks.
+/// the limits and is short. The publish engine checks a plan by this before it puts the blocks.
 pub fn applied_meets_limits()
     ensures { AppliedMeetsLimits }
+{}
+
+/// A plan fills itself: what passes for it passes for it with the ids that it has.
+pub fn fills_itself()
+    ensures { FillsItself }
 {}
 
 /// A log with no entry is sound. The world begins with it.

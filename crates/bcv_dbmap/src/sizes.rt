@@ -3,23 +3,14 @@
 ghost use Rattle.std.specs.Prelude.{◌≡◌, ◌≤◌, ◌<◌, ◌^◌, if◌then◌else◌};
 ghost use Rattle.std.specs.Str.{bytes_eq};
 ghost use Rattle.bcv_base.specs.Keyed.{with_keyed, without_keyed};
-ghost use Rattle.bcv_base.specs.ManifestRules.{blocks_needed, db_name};
+ghost use Rattle.bcv_base.specs.ManifestRules.{db_name};
 ghost use Rattle.bcv_base.specs.declared.manifest.DbEntry.{DbEntry};
 ghost use Rattle.bcv_dbmap.specs.Applied.{dbs_after};
 ghost use Rattle.bcv_dbmap.specs.Checked.{needed_length, needed_total, zero_id};
 
 use crate::databases::{database_of, place_of};
 use crate::plan::EditPlan;
-use bcv_base::{DbEntry, DbName};
-
-/// How many blocks of a size hold so many pages.
-pub(crate) fn blocks_needed(block: u32, page_size: u32, pages: u32) -> u64
-    requires { 512 ≤ block }
-    ensures value { result ≡ blocks_needed block page_size pages }
-    ensures small { result < 2 ^ 56 }
-{
-    (pages as u64 * page_size as u64 + (block as u64 - 1)) / block as u64
-}
+use bcv_base::{DbEntry, DbName, blocks_needed};
 
 // The bytes of a database's entry under a name.
 fn needed_under(block: u32, name: &DbName, db: &DbEntry) -> u64

@@ -2,7 +2,7 @@
 use Rattle.std.proofs.Common.{◌≡◌, ℕ, ◌*◌, ◌-◌, Bool, true, false, cond, ltb, eqb, List, [], ◌∷◌, ◌++◌, length, None, Result, Ok, Err, refl, sym, ap, subst, ◌∙◌, arith, length-append}
 use Rattle.std.specs.Int.{w32, w64, to_be_bytes}
 use Rattle.std.specs.List.{flat_map, AllByRecursion}
-use Rattle.std.proofs.lemmas.Bool.{eqb-true, ltb-false, le-ltb}
+use Rattle.std.proofs.lemmas.Bool.{eqb-true, le-ltb}
 use Rattle.std.proofs.lemmas.List.{append-nil, nil_from_length}
 use Rattle.bcv_base.specs.declared.manifest.DbEntry.{DbEntry}
 use Rattle.bcv_base.specs.declared.manifest.Dead.{Dead}
@@ -10,8 +10,9 @@ use Rattle.bcv_base.specs.declared.manifest.Manifest.{Manifest}
 use Rattle.bcv_base.specs.declared.manifest.Writer.{Writer}
 use Rattle.bcv_base.specs.Ids.{IsId}
 use Rattle.bcv_base.specs.ManifestGrammar.{Read, ◌>>=◌, entry_at, manifest_at, whole_at, placed, manifest_of, entry_of}
-use Rattle.bcv_base.specs.ManifestRules.{MeetsWriterRules, MeetsEntryRules, MeetsDeadRules, MeetsRules, MeetsLimits, entry_length, total_length, manifest_length}
+use Rattle.bcv_base.specs.ManifestRules.{MeetsWriterRules, MeetsEntryRules, MeetsDeadRules, MeetsRules, MeetsLimits, IsShort, entry_length, total_length, manifest_length}
 use Rattle.bcv_base.specs.ManifestText.{id_text, writer_text, entry_text, dead_text, counted, manifest_text}
+use Rattle.bcv_base.specs.SizeLimits.{most_bytes}
 use Rattle.bcv_manifest.proofs.Readers.{IsBytes, step, goes, ok_is, rule_ok}
 use Rattle.bcv_manifest.proofs.Laws.{entry_reader}
 use Rattle.bcv_manifest.proofs.Whole.{IsManifest, manifest_reader}
@@ -64,24 +65,23 @@ ended x = cond (eqb (length x.1) 0) (Ok x.0) (Err (length x.1))
 pub manifest_found : (bytes : List ℕ) (m : Manifest) → IsBytes bytes → manifest_of bytes ≡ Ok m → MeetsRules m × MeetsLimits m × (bytes ≡ manifest_text m)
 unfolding manifest_of whole_at
 manifest_found bytes m fits e =
-    let g = short_ok (ltb 67108864 (length bytes)) 67108864 (placed (length bytes) (manifest_at bytes >>= ended)) m e in
+    let g = short_ok (ltb most_bytes (length bytes)) most_bytes (placed (length bytes) (manifest_at bytes >>= ended)) m e in
     let a = step manifest_reader bytes ended m fits (placed_ok (length bytes) (manifest_at bytes >>= ended) m g.1) in
     let k = rule_ok (eqb (length a.x.1) 0) (length a.x.1) a.x.0 m a.then in
     let nothing : a.x.1 ≡ [] = nil_from_length a.x.1 (eqb-true _ _ k.0) in
     let text : bytes ≡ manifest_text a.x.0 = a.taken.parts ∙ ap (λ (r : List ℕ). manifest_text a.x.0 ++ r) nothing ∙ append-nil (manifest_text a.x.0) in
-    let len : length bytes ≡ manifest_length a.x.0 = ap length text ∙ length_text a.x.0 a.meets.rules in
-    let limits : MeetsLimits a.x.0 = record { few_writers = a.meets.few_writers; few_dbs = a.meets.few_dbs; few_dead = a.meets.few_dead; short = omega (arith, len, ltb-false 67108864 (length bytes) g.0) } in
+    let limits : MeetsLimits a.x.0 = record { few_writers = a.meets.few_writers; few_dbs = a.meets.few_dbs; few_dead = a.meets.few_dead } in
     subst (λ (z : Manifest). MeetsRules z × MeetsLimits z × (bytes ≡ manifest_text z)) k.1 (a.meets.rules, limits, text)
 
-pub manifest_only : (m : Manifest) → MeetsRules m → MeetsLimits m → manifest_of (manifest_text m) ≡ Ok m
+pub manifest_only : (m : Manifest) → MeetsRules m → MeetsLimits m → IsShort m → manifest_of (manifest_text m) ≡ Ok m
 unfolding manifest_of whole_at
-manifest_only m rules limits =
+manifest_only m rules limits fits =
     let bytes : List ℕ = manifest_text m in
     let len : length bytes ≡ manifest_length m = length_text m rules in
-    let short : ltb 67108864 (length bytes) ≡ false = le-ltb 67108864 (length bytes) (omega (arith, len, limits.short)) in
+    let short : ltb most_bytes (length bytes) ≡ false = le-ltb most_bytes (length bytes) (omega (arith, len, fits)) in
     let is : IsManifest m = record { rules = rules; few_writers = limits.few_writers; few_dbs = limits.few_dbs; few_dead = limits.few_dead } in
     let at : manifest_at bytes ≡ Ok (m, []) = ap manifest_at (sym (append-nil bytes)) ∙ manifest_reader.again m [] is in
-    ap (λ (b : Bool). cond b (Err 67108864) (placed (length bytes) (manifest_at bytes >>= ended))) short
+    ap (λ (b : Bool). cond b (Err most_bytes) (placed (length bytes) (manifest_at bytes >>= ended))) short
     ∙ ap (λ (z : Read Manifest). placed (length bytes) (z >>= ended)) at
 
 -- ---- an entry

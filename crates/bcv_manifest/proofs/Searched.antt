@@ -1,4 +1,4 @@
--- An id that is looked up in a sorted list, and the ids that databases list.
+-- The ids that databases list, and dead blocks read alike.
 use Rattle.std.proofs.Common.{◌≡◌, ℕ, ◌+◌, ◌<◌, Bool, List, ◌++◌, length, get_or, take, Option, Result, Ok, Err, sym, ap, ◌∙◌, arith, inl, inr}
 use Rattle.std.specs.Prelude.{IsSorted, ◌||◌}
 use Rattle.std.specs.List.Sorted.{IsSearchInRange, IsBinarySearchResult}
@@ -15,17 +15,6 @@ use Rattle.bcv_base.specs.declared.manifest.DbEntry.{DbEntry}
 use Rattle.bcv_base.specs.Ids.{has_id}
 use Rattle.bcv_base.specs.ManifestGrammar.{items_at, dead_at}
 use Rattle.bcv_base.specs.ManifestRules.{dead_id, lists}
-
--- a search by key answers whether the key is there
-pub searched : {A : Type 0} (key : A → List ℕ) (d : A) (xs : List A) (x : List ℕ) (r : Result ℕ ℕ) → IsSorted (λ a b. slice_cmp nat_cmp (key a) (key b)) xs → IsSearchInRange r (length xs)
-    → IsBinarySearchResult (λ y. slice_cmp nat_cmp (key y) x) xs r → is_ok r ≡ list_any (λ y. bytes_eq (key y) x) xs
-searched key d xs x (Ok i) sorted range found = sym (list_any_at (λ y. bytes_eq (key y) x) xs i d range (texts_ties (key (get_or xs i d)) x ∙ ap is_eq (found d)))
-searched key d xs x (Err i) sorted range found =
-    let parts = found (searchable_from_sorted nat_list_cmp_total key xs x sorted) in
-    sym (list_any_none (λ y. bytes_eq (key y) x) xs (λ k e lt. elim (cases_lt k i) [
-      | inl below ↦ texts_ties (key (get_or xs k e)) x ∙ ap is_eq (parts.0 k e (omega arith) below)
-      | inr above ↦ texts_ties (key (get_or xs k e)) x ∙ ap is_eq (parts.1 k e above lt)
-    ]))
 
 -- one more database's ids
 pub lists_more : (i : Id16) (ids : List Id16) (dbs : List DbEntry) (n : ℕ) (d : DbEntry) → n < length dbs → has_id i ids ≡ lists (take n dbs) i → has_id i (ids ++ (get_or dbs n d).blocks) ≡ lists (take (n + 1) dbs) i

@@ -116,11 +116,3 @@ fn block_count(dbs: &[DbEntry]) -> usize {
     }
     count
 }
-
-/// Whether the id is one of these, which ascend.
-pub(crate) fn is_one_of(ids: &[Id16], id: &Id16) -> bool
-    requires { IsSorted (λ a b. slice_cmp nat_cmp a.0 b.0) ids.now }
-    ensures { result ≡ has_id id.now ids.now }
-{
-    ids.binary_search(id).is_ok()
-}

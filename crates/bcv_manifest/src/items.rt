@@ -9,16 +9,16 @@ ghost use Rattle.bcv_base.specs.Ids.{has_id};
 ghost use Rattle.bcv_base.specs.ManifestGrammar.{such, id_at, number_at, items_at, is_above, writer_at, entry_at, dead_at};
 ghost use Rattle.bcv_base.specs.ManifestRules.{writer_id, db_name, dead_id, lists, is_page_size, blocks_needed};
 ghost use Rattle.bcv_base.specs.ManifestText.{id_text};
+ghost use Rattle.bcv_base.specs.SizeLimits.{most_blocks};
 ghost use Rattle.bcv_manifest.specs.Reading.{Gives};
 
-use crate::blocks::{is_one_of, listed_blocks, lists_dead};
+use crate::blocks::{listed_blocks, lists_dead};
 use crate::fault::Stop;
 use crate::fields::{id_of, name_len_of, name_of, number_of, u32_of, u64_of};
-use crate::rules::{blocks_needed, is_id_above, is_page_size};
-use bcv_base::{DbEntry, DbName, Dead, Id16, Seq, Writer};
+use crate::rules::is_id_above;
+use bcv_base::limits::MOST_BLOCKS;
+use bcv_base::{DbEntry, DbName, Dead, Id16, Seq, Writer, blocks_needed, is_one_of, is_page_size};
 use std::alloc::Global;
-
-const MOST_BLOCKS: u64 = 65_536;
 
 // How many items to make room for: as many as are told, and no more than the bytes can hold.
 fn room(count: usize, bytes: &[u8], size: usize) -> usize
@@ -94,10 +94,10 @@ fn page_size_of(block: u32, bytes: &[u8]) -> Result<(u32, &[u8]), Stop>
 // How many pages a database has.
 fn pages_of(block: u32, page_size: u32, bytes: &[u8]) -> Result<(u32, &[u8]), Stop>
     requires { 1 ≤ block }
-    ensures { Gives (λ x. (x.0, x.1.now)) result (such (number_at w32) (λ n. nat_le (blocks_needed block page_size n) 65536) bytes.now) }
+    ensures { Gives (λ x. (x.0, x.1.now)) result (such (number_at w32) (λ n. nat_le (blocks_needed block page_size n) most_blocks) bytes.now) }
 {
     let (pages, rest) = u32_of(bytes)?;
-    if blocks_needed(block, page_size, pages) > MOST_BLOCKS {
+    if blocks_needed(block, page_size, pages) > u64::from(MOST_BLOCKS) {
         return Err(Stop::at(bytes));
     }
     Ok((pages, rest))

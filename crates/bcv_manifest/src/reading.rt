@@ -3,24 +3,17 @@ ghost use Rattle.std.specs.Int.{w32};
 ghost use Rattle.bcv_base.specs.declared.manifest.DbEntry.{DbEntry};
 ghost use Rattle.bcv_base.specs.declared.manifest.Manifest.{Manifest};
 ghost use Rattle.bcv_base.specs.ManifestGrammar.{such, number_at, counted_at, writer_at, entry_at, dead_at, manifest_at, whole_at, manifest_of, entry_of};
-ghost use Rattle.bcv_base.specs.ManifestRules.{writer_id, db_name, dead_id, lists, MeetsRules, MeetsLimits, MeetsEntryRules, is_block_size, entry_length};
+ghost use Rattle.bcv_base.specs.ManifestRules.{writer_id, db_name, dead_id, lists, MeetsRules, MeetsLimits, IsShort, MeetsEntryRules, is_block_size, entry_length};
+ghost use Rattle.bcv_base.specs.SizeLimits.{most_writers, most_databases, most_dead};
 ghost use Rattle.bcv_base.specs.ManifestText.{manifest_text, entry_text};
 ghost use Rattle.bcv_manifest.specs.Reading.{Gives, Answers, fault_of};
 
 use crate::fault::{Bad, ReadFault, Stop};
 use crate::fields::{after_magic, count_of, id_of, u32_of, u64_of, version_of};
 use crate::items::{dead_blocks_of, entries_of, entry_of, writers_of};
-use crate::rules::is_block_size;
-use bcv_base::{DbEntry, Dead, Manifest, Seq, Writer};
+use bcv_base::limits::{MOST_BYTES, MOST_DATABASES, MOST_DEAD, MOST_WRITERS};
+use bcv_base::{DbEntry, Dead, Manifest, Seq, Writer, is_block_size};
 use std::alloc::Global;
-
-const MOST_BYTES: usize = 67_108_864;
-
-const MOST_WRITERS: u32 = 4_096;
-
-const MOST_DATABASES: u32 = 1_024;
-
-const MOST_DEAD: u32 = 1_048_576;
 
 fn block_size_of(bytes: &[u8]) -> Result<(u32, &[u8]), Stop>
     ensures { Gives (λ x. (x.0, x.1.now)) result (such (number_at w32) is_block_size bytes.now) }
@@ -34,7 +27,7 @@ fn block_size_of(bytes: &[u8]) -> Result<(u32, &[u8]), Stop>
 
 #[tactic(auto, unfolding(bcv_base::specs::ManifestGrammar::counted_at))]
 fn counted_writers(alloc: Global, most: u64, bytes: &[u8]) -> Result<(Vec<Writer>, &[u8]), Stop>
-    ensures { Gives (λ x. (x.0.items, x.1.now)) result (counted_at 4096 writer_id (writer_at most) bytes.now) }
+    ensures { Gives (λ x. (x.0.items, x.1.now)) result (counted_at most_writers writer_id (writer_at most) bytes.now) }
 {
     let (count, rest) = count_of(MOST_WRITERS, bytes)?;
     writers_of(alloc, most, count, rest)
@@ -43,7 +36,7 @@ fn counted_writers(alloc: Global, most: u64, bytes: &[u8]) -> Result<(Vec<Writer
 #[tactic(auto, unfolding(bcv_base::specs::ManifestGrammar::counted_at))]
 fn counted_entries(alloc: Global, block: u32, bytes: &[u8]) -> Result<(Vec<DbEntry>, &[u8]), Stop>
     requires { 1 ≤ block }
-    ensures { Gives (λ x. (x.0.items, x.1.now)) result (counted_at 1024 db_name (entry_at block) bytes.now) }
+    ensures { Gives (λ x. (x.0.items, x.1.now)) result (counted_at most_databases db_name (entry_at block) bytes.now) }
 {
     let (count, rest) = count_of(MOST_DATABASES, bytes)?;
     entries_of(alloc, block, count, rest)
@@ -55,13 +48,13 @@ fn counted_dead<'a>(
     dbs: &[DbEntry],
     bytes: &'a [u8],
 ) -> Result<(Vec<Dead>, &'a [u8]), Stop>
-    ensures { Gives (λ x. (x.0.items, x.1.now)) result (counted_at 1048576 dead_id (dead_at (lists dbs.now)) bytes.now) }
+    ensures { Gives (λ x. (x.0.items, x.1.now)) result (counted_at most_dead dead_id (dead_at (lists dbs.now)) bytes.now) }
 {
     let (count, rest) = count_of(MOST_DEAD, bytes)?;
     dead_blocks_of(alloc, dbs, count, rest)
 }
 
-#[tactic(auto, unfolding(bcv_base::specs::ManifestGrammar::manifest_at))]
+#[tactic(auto, unfolding(bcv_base::specs::ManifestGrammar::manifest_at, bcv_base::specs::ManifestGrammar::head_at, bcv_base::specs::ManifestGrammar::lists_at))]
 fn manifest_of(alloc: Global, bytes: &[u8]) -> Result<(Manifest, &[u8]), Stop>
     ensures { Gives (λ x. (x.0, x.1.now)) result (manifest_at bytes.now) }
 {
@@ -127,9 +120,9 @@ fn placed(bytes: &[u8], stop: Stop) -> ReadFault
 fn answer(alloc: Global, bytes: &[u8]) -> Result<Manifest, ReadFault>
     ensures { Answers (λ x. x) result (manifest_of bytes.now) }
 {
-    if bytes.len() > MOST_BYTES {
+    if bytes.len() > MOST_BYTES as usize {
         return Err(ReadFault::Bad(Bad {
-            at: MOST_BYTES as u64,
+            at: u64::from(MOST_BYTES),
         }));
     }
     match whole(alloc, bytes) {
@@ -155,7 +148,7 @@ pub fn read_manifest(alloc: Global, bytes: &[u8]) -> Result<Manifest, ReadFault>
     // What is read meets the rules, and is spelled so.
     ensures found { IfOk result (λ m. MeetsRules m × MeetsLimits m × (bytes.now ≡ manifest_text m)) }
     // What meets the rules and is spelled so is read, unless memory runs out.
-    ensures only { (m : Manifest) → MeetsRules m → MeetsLimits m → bytes.now ≡ manifest_text m → Answers (λ x. x) result (Ok m) }
+    ensures only { (m : Manifest) → MeetsRules m → MeetsLimits m → IsShort m → bytes.now ≡ manifest_text m → Answers (λ x. x) result (Ok m) }
     // Where the fault is.
     ensures exact { Answers (λ x. x) result (manifest_of bytes.now) }
 {

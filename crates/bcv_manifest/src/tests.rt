@@ -1,5 +1,6 @@
 use super::*;
-use crate::rules::is_block_size;
+use bcv_base::limits::MOST_BYTES;
+use bcv_base::{is_block_size, manifest_len};
 use std::alloc::{AllocError, Global};
 use std::test::*;
 
@@ -29,11 +30,14 @@ fn place(alloc: Global, bytes: &[u8]) -> Option<u64> {
 
 // Whether what is read is written as it was read.
 fn is_written_again(alloc: Global, bytes: &[u8]) -> bool {
-    match read_manifest(alloc, bytes) {
-        Ok(manifest) => match write_manifest(alloc, &manifest) {
-            Ok(text) => text.as_slice() == bytes,
-            Err(_) => false,
-        },
+    let Ok(manifest) = read_manifest(alloc, bytes) else {
+        return false;
+    };
+    if manifest_len(&manifest) > u64::from(MOST_BYTES) {
+        return false;
+    }
+    match write_manifest(alloc, &manifest) {
+        Ok(text) => text.as_slice() == bytes,
         Err(_) => false,
     }
 }

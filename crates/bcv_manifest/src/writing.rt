@@ -2,7 +2,7 @@ ghost use Rattle.std.specs.Prelude.{◌≡◌, ◌<◌, ◌≤◌, ◌^◌, ◌+
 ghost use Rattle.bcv_base.specs.ManifestGrammar.{manifest_of};
 ghost use Rattle.std.specs.Int.{w8, w32, w64, to_be_bytes};
 ghost use Rattle.std.specs.List.{flat_map};
-ghost use Rattle.bcv_base.specs.ManifestRules.{MeetsRules, MeetsLimits, MeetsEntryRules, is_block_size, manifest_length};
+ghost use Rattle.bcv_base.specs.ManifestRules.{MeetsRules, MeetsLimits, IsShort, MeetsEntryRules, is_block_size, manifest_length};
 ghost use Rattle.bcv_base.specs.ManifestText.{manifest_text, entry_text, writer_text, dead_text, id_text, counted};
 ghost use Rattle.bcv_manifest.specs.Head.{head_text};
 
@@ -136,6 +136,7 @@ fn spelled(alloc: Global, manifest: &Manifest) -> Result<Vec<u8>, AllocError>
 pub fn write_manifest(alloc: Global, manifest: &Manifest) -> Result<Vec<u8>, AllocError>
     requires rules { MeetsRules manifest.now }
     requires limits { MeetsLimits manifest.now }
+    requires short { IsShort manifest.now }
     ensures text { IfOk result (λ v. v.items ≡ manifest_text manifest.now) }
     ensures reads { IfOk result (λ v. manifest_of v.items ≡ Ok manifest.now) }
     ensures len { IfOk result (λ v. length v.items ≡ manifest_length manifest.now) }

@@ -2,4 +2,5 @@ pub mod Asking
 pub mod Called
 pub mod Counting
 pub mod Listing
+pub mod Planning
 pub mod Placing

@@ -2,5 +2,5 @@ pub mod Called
 pub mod Etags
 pub mod EtagLaws
 pub mod Index
-pub mod Lost
+pub mod Planned
 pub mod Told

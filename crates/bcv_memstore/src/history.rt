@@ -125,6 +125,7 @@ impl History {
         requires { into.old.items ≡ [] }
         ensures told { GetAnswers outcome.Ok (object_of name.now self.now) unless most into.new.items result }
         ensures within { IsGotWithin unless most into.new.items result }
+        ensures answered { result ≢ Got.Failed }
     {
         let (bytes, etag) = match self.object(name) {
             Some(found) => found,

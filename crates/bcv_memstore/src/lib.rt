@@ -8,6 +8,7 @@
 mod history;
 mod mem_store;
 mod places;
+mod plan;
 #[cfg(test)]
 mod tests;
 

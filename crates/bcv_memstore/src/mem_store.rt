@@ -1,14 +1,17 @@
-ghost use Rattle.std.specs.Prelude.{◌≡◌, ℕ, ◌+◌, ◌≤◌, List, [], ◌∷◌, length, true, IfOk, OnErr};
-ghost use Rattle.bcv_base.specs.Faults.{Rose};
+ghost use Rattle.std.specs.Prelude.{◌≡◌, ◌≢◌, ℕ, ◌+◌, ◌≤◌, List, [], ◌∷◌, length, true, IfOk, OnErr, if◌then◌else◌, is_ok};
+ghost use Rattle.std.specs.Option.{option_copied};
 ghost use Rattle.bcv_base.specs.Log.{object_of, put_count};
+ghost use Rattle.bcv_base.specs.Plan.{one_more};
 ghost use Rattle.bcv_base.specs.declared.object.ObjName.TheVariants as object;
 ghost use Rattle.bcv_base.specs.declared.outcome.Outcome.TheVariants as outcome;
 ghost use Rattle.bcv_store.specs.Plans.{next_of, rest_of};
-ghost use Rattle.bcv_memstore.specs.Lost.{put_lost, deletion_lost};
 ghost use Rattle.bcv_store.specs.Asked.{holds, PutAnswers, DeleteAnswers, Adds};
+ghost use Rattle.bcv_store.specs.Requests.{StoreGets, StorePuts, StoreDeletes, StoreLists};
 ghost use Rattle.bcv_memstore.specs.Etags.{are_numbered};
+ghost use Rattle.bcv_memstore.specs.Planned.{planned_at};
 
 use crate::history::History;
+use crate::plan::Plan;
 use bcv_base::{Id16, ObjName, Outcome, Seq};
 use bcv_store::{Cond, Del, Got, Listed, Put, Store};
 use std::alloc::{AllocError, Global};
@@ -20,16 +23,16 @@ use std::alloc::{AllocError, Global};
 #[derive(Drop)]
 pub struct MemStore {
     history: History,
-    next: Option<Outcome>,
+    plan: Plan,
     faults: u64,
 
     ghost numbered: { are_numbered 0 history ≡ true },
 }
 
 impl MemStore {
-    ghost use Rattle.bcv_memstore.specs.Told.{log_of, plan_of, faults_of};
+    ghost use Rattle.bcv_memstore.specs.Told.{log_of, plan_of, faults_of, CountsFault, IsNumbered};
 
-    /// A store of no object, with nothing planned.
+    /// Makes a store of no object, with nothing planned.
     pub fn new(alloc: Global) -> MemStore
         ensures log { log_of result ≡ [] }
         ensures plan { plan_of result ≡ [] }
@@ -37,18 +40,27 @@ impl MemStore {
     {
         MemStore {
             history: History::new(alloc),
-            next: None,
+            plan: Plan::new(alloc),
             faults: 0,
         }
     }
 
-    /// Sets the outcome of the next request, and of that one alone.
+    /// Sets the outcome of the next request.
     pub fn plan(&mut self, outcome: Outcome)
         ensures log { log_of self.new ≡ log_of self.old }
-        ensures plan { plan_of self.new ≡ outcome ∷ [] }
+        ensures plan { plan_of self.new ≡ outcome ∷ rest_of (plan_of self.old) }
         ensures faults { faults_of self.new ≡ faults_of self.old }
     {
-        self.next = Some(outcome);
+        self.plan.set_next(outcome);
+    }
+
+    /// Sets the outcome of the request after `calls` further ones. Without memory nothing is planned.
+    pub fn plan_at(&mut self, calls: u32, outcome: Outcome) -> Result<(), AllocError>
+        ensures log { log_of self.new ≡ log_of self.old }
+        ensures plan { plan_of self.new ≡ (if is_ok result then planned_at calls outcome (plan_of self.old) else plan_of self.old) }
+        ensures faults { faults_of self.new ≡ faults_of self.old }
+    {
+        self.plan.set(calls, outcome)
     }
 
     /// How many entries the log has.
@@ -65,27 +77,21 @@ impl MemStore {
         self.history.manifests()
     }
 
-    // Takes the planned outcome away, and counts a fault where it is not `Ok`.
-    fn begin(&mut self) -> Outcome
-        ensures outcome { result ≡ next_of (plan_of self.old) }
+    // Counts a request that fails.
+    fn count_fault(&mut self)
         ensures log { log_of self.new ≡ log_of self.old }
-        ensures plan { plan_of self.new ≡ rest_of (plan_of self.old) }
+        ensures plan { plan_of self.new ≡ plan_of self.old }
+        ensures faults { faults_of self.new ≡ one_more (faults_of self.old) }
         ensures later { faults_of self.old ≤ faults_of self.new }
-        ensures failed { ((result ≡ outcome.Ok) → ⊥) → Rose (faults_of self.old) (faults_of self.new) }
     {
-        let outcome = self.next.take().unwrap_or(Outcome::Ok);
-        match outcome {
-            Outcome::Ok => {}
-            Outcome::Fail | Outcome::Lost => {
-                self.faults = self.faults.saturating_add(1);
-            }
-        }
-        outcome
+        self.faults = self.faults.saturating_add(1);
     }
 
     // Puts an object without regard to the plan.
     fn write(&mut self, alloc: Global, name: &ObjName, cond: Cond, bytes: &[u8]) -> Put
         ensures told { PutAnswers outcome.Ok (holds cond (object_of name.now (log_of self.old))) (log_of self.old) (log_of self.new) name.now bytes.now result }
+        ensures numbered { IsNumbered (log_of self.new) result }
+        ensures answered { result ≢ Put.Failed }
         ensures plan { plan_of self.new ≡ plan_of self.old }
         ensures faults { faults_of self.new ≡ faults_of self.old }
     {
@@ -101,6 +107,7 @@ impl MemStore {
     // Appends a deletion without regard to the plan.
     fn erase(&mut self, name: &ObjName, at: u64) -> Del
         ensures told { DeleteAnswers outcome.Ok (log_of self.old) (log_of self.new) name.now at result }
+        ensures answered { result ≢ Del.Failed }
         ensures plan { plan_of self.new ≡ plan_of self.old }
         ensures faults { faults_of self.new ≡ faults_of self.old }
     {
@@ -110,9 +117,43 @@ impl MemStore {
         }
     }
 
+    // Puts an object and loses the answer, but for want of memory, which is told.
+    fn lose_put(&mut self, alloc: Global, name: &ObjName, cond: Cond, bytes: &[u8]) -> Put
+        ensures told { PutAnswers outcome.Lost (holds cond (object_of name.now (log_of self.old))) (log_of self.old) (log_of self.new) name.now bytes.now result }
+        ensures numbered { IsNumbered (log_of self.new) result }
+        ensures plan { plan_of self.new ≡ plan_of self.old }
+        ensures later { faults_of self.old ≤ faults_of self.new }
+        ensures counts { CountsFault (result ≡ Put.Failed) (faults_of self.old) (faults_of self.new) }
+    {
+        match self.write(alloc, name, cond, bytes) {
+            Put::NoMemory => Put::NoMemory,
+            Put::Stored(_) | Put::Refused | Put::Failed => {
+                self.count_fault();
+                Put::Failed
+            }
+        }
+    }
+
+    // Appends a deletion and loses the answer, but for want of memory, which is told.
+    fn lose_deletion(&mut self, name: &ObjName, at: u64) -> Del
+        ensures told { DeleteAnswers outcome.Lost (log_of self.old) (log_of self.new) name.now at result }
+        ensures plan { plan_of self.new ≡ plan_of self.old }
+        ensures later { faults_of self.old ≤ faults_of self.new }
+        ensures counts { CountsFault (result ≡ Del.Failed) (faults_of self.old) (faults_of self.new) }
+    {
+        match self.erase(name, at) {
+            Del::NoMemory => Del::NoMemory,
+            Del::Done | Del::Failed => {
+                self.count_fault();
+                Del::Failed
+            }
+        }
+    }
+
     // Appends a put, whose etag is the number of the entries with it.
     fn append(&mut self, alloc: Global, name: &ObjName, bytes: &[u8]) -> Result<u64, AllocError>
         ensures added { IfOk result (λ etag. Adds (log_of self.old) (log_of self.new) name.now bytes.now etag) }
+        ensures numbered { IfOk result (λ etag. etag ≡ length (log_of self.new)) }
         ensures kept { OnErr result (log_of self.new ≡ log_of self.old) }
         ensures plan { plan_of self.new ≡ plan_of self.old }
         ensures faults { faults_of self.new ≡ faults_of self.old }
@@ -125,20 +166,16 @@ impl MemStore {
 }
 
 impl Store for MemStore {
-    ghost use Rattle.bcv_memstore.specs.Told.{log_of, plan_of, faults_of};
+    ghost use Rattle.std.specs.Prelude.{◌≤◌};
+    ghost use Rattle.std.proofs.Common.{arith};
     ghost use Rattle.bcv_memstore.specs.EtagLaws.{rising_numbered};
+    ghost use Rattle.bcv_memstore.specs.Told.{told_here, shown_by, log_of, faults_of, CountsFault, IsNumbered};
 
-    ghost tells = { Unit {0} };
+    ghost told = { told_here };
 
-    ghost alone = { Unit {0} };
+    ghost shown = { shown_by };
 
-    ghost plans = { Unit {0} };
-
-    ghost log = { log_of };
-
-    ghost plan = { plan_of };
-
-    ghost faults = { faults_of };
+    ghost reaches = { λ old new. faults_of old ≤ faults_of new };
 
     fn get(
         &mut self,
@@ -147,47 +184,80 @@ impl Store for MemStore {
         unless: Option<u64>,
         into: &mut Vec<u8>,
         most: usize,
-    ) -> Got {
+    ) -> Got
+        ensures gets { StoreGets told_here (shown_by self.old) (shown_by self.new) name.now unless most into.new.items result }
+        ensures reached { faults_of self.old ≤ faults_of self.new }
+        ensures counts { CountsFault (result ≡ Got.Failed) (faults_of self.old) (faults_of self.new) }
+    {
         let _ = alloc;
         into.clear();
-        match self.begin() {
+        match self.plan.take() {
             Outcome::Ok => self.history.read(name, unless, into, most),
-            Outcome::Fail => Got::Failed,
-            Outcome::Lost => Got::Failed,
+            Outcome::Fail | Outcome::Lost => {
+                self.count_fault();
+                Got::Failed
+            }
         }
     }
 
-    fn put(&mut self, alloc: Global, name: &ObjName, cond: Cond, bytes: &[u8]) -> Put {
-        match self.begin() {
+    fn put(&mut self, alloc: Global, name: &ObjName, cond: Cond, bytes: &[u8]) -> Put
+        ensures puts { StorePuts told_here (shown_by self.old) (shown_by self.new) name.now cond bytes.now result }
+        ensures reached { faults_of self.old ≤ faults_of self.new }
+        ensures counts { CountsFault (result ≡ Put.Failed) (faults_of self.old) (faults_of self.new) }
+        ensures numbered { IsNumbered (log_of self.new) result }
+    {
+        match self.plan.take() {
             Outcome::Ok => self.write(alloc, name, cond, bytes),
-            Outcome::Fail => Put::Failed,
-            Outcome::Lost => lost_put(self.write(alloc, name, cond, bytes)),
+            Outcome::Fail => {
+                self.count_fault();
+                Put::Failed
+            }
+            Outcome::Lost => self.lose_put(alloc, name, cond, bytes),
         }
     }
 
-    fn delete(&mut self, alloc: Global, name: &ObjName, at: u64) -> Del {
+    fn delete(&mut self, alloc: Global, name: &ObjName, at: u64) -> Del
+        ensures deletes { StoreDeletes told_here (shown_by self.old) (shown_by self.new) name.now at result }
+        ensures reached { faults_of self.old ≤ faults_of self.new }
+        ensures counts { CountsFault (result ≡ Del.Failed) (faults_of self.old) (faults_of self.new) }
+    {
         let _ = alloc;
-        match self.begin() {
+        match self.plan.take() {
             Outcome::Ok => self.erase(name, at),
-            Outcome::Fail => Del::Failed,
-            Outcome::Lost => lost_delete(self.erase(name, at)),
+            Outcome::Fail => {
+                self.count_fault();
+                Del::Failed
+            }
+            Outcome::Lost => self.lose_deletion(name, at),
         }
     }
 
-    fn list(&mut self, alloc: Global, after: Option<&Id16>, into: &mut Vec<Id16>) -> Listed {
+    fn list(&mut self, alloc: Global, after: Option<&Id16>, into: &mut Vec<Id16>) -> Listed
+        ensures lists { StoreLists told_here (shown_by self.old) (shown_by self.new) (option_copied after.entry) into.new.items result }
+        ensures reached { faults_of self.old ≤ faults_of self.new }
+        ensures counts { CountsFault (result ≡ Listed.Failed) (faults_of self.old) (faults_of self.new) }
+    {
         let _ = alloc;
         into.clear();
-        match self.begin() {
+        match self.plan.take() {
             Outcome::Ok => self.history.list(after, into),
-            Outcome::Fail => Listed::Failed,
-            Outcome::Lost => Listed::Failed,
+            Outcome::Fail | Outcome::Lost => {
+                self.count_fault();
+                Listed::Failed
+            }
         }
     }
 
     ghost rising = { λ store told. rising_numbered 0 store.history store.numbered };
+
+    ghost same = { λ store. omega arith };
+
+    ghost through = { λ first second third earlier later. omega (arith, earlier, later) };
+
+    ghost counted = { λ old new reached. reached };
 }
 
-// The number of the entry behind so many; a vector could not hold more than the last one.
+// The number of the entry after so many; a vector could not hold more than the last one.
 fn number_after(entries: usize) -> Result<u64, AllocError>
     ensures { IfOk result (λ number. number ≡ entries + 1) }
 {
@@ -195,27 +265,4 @@ fn number_after(entries: usize) -> Result<u64, AllocError>
         return Err(AllocError);
     }
     Ok(entries as u64 + 1)
-}
-
-// What is answered where the answer of a put is lost.
-fn lost_put(answer: Put) -> Put
-    ensures { result ≡ put_lost answer }
-{
-    match answer {
-        Put::NoMemory => Put::NoMemory,
-        Put::Stored(_) => Put::Failed,
-        Put::Refused => Put::Failed,
-        Put::Failed => Put::Failed,
-    }
-}
-
-// What is answered where the answer of a delete is lost.
-fn lost_delete(answer: Del) -> Del
-    ensures { result ≡ deletion_lost answer }
-{
-    match answer {
-        Del::NoMemory => Del::NoMemory,
-        Del::Done => Del::Failed,
-        Del::Failed => Del::Failed,
-    }
 }

@@ -18,8 +18,9 @@ fn replace<S: Store>(
     into: &mut Vec<u8>,
     bytes: &[u8],
 ) -> Put
-    ensures replaces { S.tells → S.alone → Replaces (S.log store.new) name.now bytes.now result }
-    ensures failed { result ≡ Put.Failed → Rose (S.faults store.old) (S.faults store.new) }
+    ensures replaces { S.told.tells → S.told.alone → Replaces (S.shown store.new).log name.now bytes.now result }
+    ensures failed { result ≡ Put.Failed → Rose (S.shown store.old).faults (S.shown store.new).faults }
+    ensures reached { S.reaches store.old store.new }
 {
     match store.get(alloc, name, None, into, usize::MAX) {
         Got::Found(etag) => store.put(alloc, name, Cond::Match(etag), bytes),
@@ -184,5 +185,26 @@ fn lists_in_two_parts(rt: HostRuntime) -> Result<(), Fail> {
     assert_eq!(rt; store.list(alloc, Some(&last), &mut ids), Listed::End);
     assert_eq!(rt; ids.len(), 1);
     assert_eq!(rt; ObjName::Block(ids[0]), block(1024));
+    Ok(())
+}
+
+#[test]
+fn plans_ahead(rt: HostRuntime) -> Result<(), Fail> {
+    let alloc = rt.alloc();
+    let mut store = MemStore::new(alloc);
+    store.plan_at(2, Outcome::Ok)?;
+    store.plan_at(1, Outcome::Fail)?;
+    store.plan_at(1, Outcome::Lost)?;
+    store.plan(Outcome::Fail);
+    let name = ObjName::Manifest;
+    assert_eq!(rt; store.put(alloc, &name, Cond::Absent, b"m"), Put::Failed);
+    assert_eq!(rt; store.log_len(), 0);
+    assert_eq!(rt; store.put(alloc, &name, Cond::Absent, b"m"), Put::Failed);
+    assert_eq!(rt; store.log_len(), 1);
+    assert_eq!(rt; store.put(alloc, &name, Cond::Absent, b"m"), Put::Refused);
+    assert_eq!(rt;
+        store.put(alloc, &name, Cond::Match(1), b"n"),
+        Put::Stored(2)
+    );
     Ok(())
 }

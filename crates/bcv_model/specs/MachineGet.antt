@@ -2,8 +2,10 @@
 use Rattle.std.specs.Prelude.{◌≡◌, ℕ, ◌+◌, ◌-◌, ◌^◌, ◌<◌, ◌≤◌, ◌==◌, List, [], ◌∷◌, length, Option, Some, None, is_some, is_none, nat_lt, nat_le, if◌then◌else◌}
 use Rattle.bcv_base.specs.declared.outcome.Outcome.{Outcome}
 use Rattle.bcv_base.specs.declared.outcome.Outcome.TheVariants as outcome
+use Rattle.bcv_base.specs.BlockCounts.{all_blocks}
 use Rattle.bcv_base.specs.Keyed.{keyed}
 use Rattle.bcv_base.specs.ManifestRules.{blocks_needed}
+use Rattle.bcv_base.specs.SizeLimits.{most_writers, most_databases, most_blocks, most_dead}
 use Rattle.bcv_base.specs.Version.{Database, Version, the_name}
 use Rattle.bcv_model.specs.declared.reply.Reply.{Reply}
 use Rattle.bcv_model.specs.declared.reply.Reply.TheVariants as reply
@@ -17,15 +19,15 @@ abbrev pub new_fault : ℕ → List Database → List ℕ → ℕ → ℕ → Op
 new_fault block dbs name page_size pages =
     if is_some (keyed the_name name dbs) then Some reply.Exists
     else (if nat_lt block page_size then Some reply.PageTooLarge
-    else (if nat_lt 65536 (blocks_needed block page_size pages) then Some reply.TooLarge
-    else (if nat_le 1024 (length dbs) then Some reply.TooManyDatabases else None)))
+    else (if nat_lt most_blocks (blocks_needed block page_size pages) then Some reply.TooLarge
+    else (if nat_le most_databases (length dbs) then Some reply.TooManyDatabases else None)))
 
 -- why a copy can't
 abbrev pub copy_fault : List Database → List ℕ → List ℕ → Option Reply
 copy_fault dbs from to =
     if is_none (keyed the_name from dbs) then Some reply.NoDatabase
     else (if is_some (keyed the_name to dbs) then Some reply.Exists
-    else (if nat_le 1024 (length dbs) then Some reply.TooManyDatabases else None))
+    else (if nat_le most_databases (length dbs) then Some reply.TooManyDatabases else None))
 
 abbrev pub kind_fault : ℕ → List Database → Kind → Option Reply
 kind_fault block dbs (Making d page_size pages) = new_fault block dbs d page_size (length pages)
@@ -39,22 +41,12 @@ edit_fault a v kind = if length a.versions == 2 ^ 64 - 1 then Some reply.Version
 
 -- ---- want of room
 
--- the blocks of some databases, over blocks of a size
-abbrev pub database_blocks : ℕ → List Database → ℕ
-database_blocks block [] = 0
-database_blocks block (d ∷ ds) = blocks_needed block d.page_size (length d.image) + database_blocks block ds
-
--- the blocks of all databases of some versions
-abbrev pub all_blocks : ℕ → List Version → ℕ
-all_blocks block [] = 0
-all_blocks block (v ∷ vs) = database_blocks block v.dbs + all_blocks block vs
-
 -- a fault of the edit: the first that the version decides, exactly; else want of room, which may come only where there are
 -- very many versions, or blocks of all versions together
 abbrev pub Faults : State → Version → Kind → Reply → Type 0
-Faults a v kind reply.WritersFull = (edit_fault a v kind ≡ None) × (4096 ≤ length a.versions)
-Faults a v kind reply.DeleteListFull = (edit_fault a v kind ≡ None) × (1048576 < all_blocks a.block a.versions)
-Faults a v kind reply.ManifestTooLong = (edit_fault a v kind ≡ None) × (1048576 < all_blocks a.block a.versions)
+Faults a v kind reply.WritersFull = (edit_fault a v kind ≡ None) × (most_writers ≤ length a.versions)
+Faults a v kind reply.DeleteListFull = (edit_fault a v kind ≡ None) × (most_dead < all_blocks a.block a.versions)
+Faults a v kind reply.ManifestTooLong = (edit_fault a v kind ≡ None) × (most_dead < all_blocks a.block a.versions)
 Faults a v kind r = edit_fault a v kind ≡ Some r
 
 -- ---- the get

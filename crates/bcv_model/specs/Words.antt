@@ -1,9 +1,10 @@
 -- The words of a line, and the numbers, names and pages that words write.
-use Rattle.std.specs.Prelude.{ℕ, ◌+◌, ◌-◌, ◌*◌, Bool, false, ◌&&◌, ◌||◌, ◌==◌, List, [], ◌∷◌, ◌++◌, length, replicate, fold, Option, Some, None, nat_le, nat_lt, option_and_then, if◌then◌else◌}
+use Rattle.std.specs.Prelude.{ℕ, ◌+◌, ◌-◌, ◌*◌, Bool, false, ◌&&◌, ◌||◌, ◌==◌, List, [], ◌∷◌, length, replicate, fold, Option, Some, None, nat_le, nat_lt, option_and_then, if◌then◌else◌}
 use Rattle.std.specs.List.{slice_split, list_all}
 use Rattle.std.specs.Str.{bytes_eq}
 use Rattle.bcv_base.specs.Names.{is_name}
 use Rattle.bcv_base.specs.Image.{Page}
+use Rattle.bcv_base.specs.Padded.{padded}
 
 infixl 10 ◌>>=◌
 abbrev pub ◌>>=◌ : {A B : Type 0} → Option A → (A → Option B) → Option B
@@ -41,10 +42,6 @@ abbrev pub unhexed : List ℕ → Option (List ℕ)
 unhexed [] = Some []
 unhexed (a ∷ []) = None
 unhexed (a ∷ b ∷ rest) = hex_value a >>= λ h. hex_value b >>= λ l. unhexed rest >>= λ bs. Some ((16 * h + l) ∷ bs)
-
--- filled with zeros up to the page size
-abbrev pub padded : ℕ → List ℕ → Page
-padded page_size bytes = bytes ++ replicate (page_size - length bytes) 0
 
 -- at least one byte, and at most a page
 abbrev pub page_from : ℕ → List ℕ → Option Page

@@ -1,8 +1,12 @@
+pub mod AppendLaws
+pub mod BlockPutLaws
+pub mod CreateLaws
 pub mod GetLaws
-pub mod LastManifest
+pub mod Growth
 pub mod Made
-pub mod PutAny
 pub mod PutLaws
-pub mod PutSound
+pub mod ReadLaws
 pub mod Ready
+pub mod ResolveLaws
 pub mod Rising
+pub mod Unput

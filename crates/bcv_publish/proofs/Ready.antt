@@ -4,8 +4,8 @@ use Rattle.bcv_base.specs.declared.seen.Seen.{Seen}
 use Rattle.bcv_dbmap.specs.declared.plan.EditPlan.{EditPlan}
 use Rattle.bcv_dbmap.specs.Applied.{FitsPlan}
 use Rattle.bcv_publish.specs.declared.work.Work.TheVariants as work
-use Rattle.bcv_publish.specs.Getting.{GetLeaves}
-use Rattle.bcv_publish.specs.Putting.{IsReady}
+use Rattle.bcv_publish.specs.ManifestGet.{GetLeaves}
+use Rattle.bcv_publish.specs.ManifestPut.{IsReady}
 use Rattle.bcv_publish.specs.State.{State}
 
 pub ready_behind : (seen : Seen) (plan : EditPlan) (old new : State) → GetLeaves seen plan old work.More new → ((block : ℕ) → FitsPlan block plan) → MatchOption new.latest ⊥ (λ read. IsReady read.manifest plan new.writer)

@@ -3,7 +3,7 @@ use Rattle.std.proofs.Common.{◌≡◌, ℕ, ◌+◌, ◌≤◌, Bool, true, fa
 use Rattle.bcv_base.specs.declared.manifest.Manifest.{Manifest}
 use Rattle.bcv_base.specs.declared.seen.Latest.{Latest}
 use Rattle.bcv_base.specs.declared.seen.Seen.{Seen}
-use Rattle.bcv_publish.specs.Getting.{is_past, is_other, unlike}
+use Rattle.bcv_publish.specs.ManifestRead.{is_past, is_other, unlike}
 use Rattle.bcv_publish.specs.State.{State, last_number, Rise, RisesTo}
 
 -- without the last one

@@ -1,4 +1,9 @@
-pub mod Getting
-pub mod Putting
+pub mod BlockPut
+pub mod ManifestAppend
+pub mod ManifestCreate
+pub mod ManifestGet
+pub mod ManifestPut
+pub mod ManifestRead
+pub mod Request
+pub mod Resolve
 pub mod State
-pub mod Steps

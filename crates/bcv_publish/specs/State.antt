@@ -3,7 +3,7 @@ use Rattle.std.specs.Prelude.{ℕ, ◌<◌, List, [], ◌∷◌, ◌++◌, Optio
 use Rattle.bcv_base.specs.declared.id.Id16.{Id16}
 use Rattle.bcv_base.specs.declared.seen.Latest.{Latest}
 
--- a publication of a writer, under an id: the manifest that was read last, or, behind a publication, the one that was put;
+-- a publication of a writer, under an id: the manifest that was read last, or, after a publication, the one that was put;
 -- the numbers of what was read before refused puts; and the block size of those manifests
 pub record State : Type 0 where
   pub writer : Id16
@@ -11,6 +11,14 @@ pub record State : Type 0 where
   pub latest : Option Latest
   pub refused : List ℕ
   pub block : Option ℕ
+
+-- a publication of which nothing was read yet
+abbrev pub new_publish : Id16 → Id16 → State
+new_publish writer id = record { writer = writer; id = id; latest = None; refused = []; block = None }
+
+-- a publication with the manifest that was read
+abbrev pub with_latest : State → Latest → State
+with_latest p l = record p { latest = Some l }
 
 -- the number that was read last before a refused put
 abbrev pub last_number : List ℕ → Option ℕ

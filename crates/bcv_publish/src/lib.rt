@@ -8,14 +8,27 @@
 //! client that shares no name with this one.
 #![tactic(auto)]
 
-mod getting;
+mod block_put;
+mod created;
+mod manifest_append;
+mod manifest_create;
+mod manifest_get;
+mod manifest_put;
+mod manifest_read;
+mod pending;
 mod publish;
-mod putting;
 mod refused;
+mod resolved;
+mod unread;
 mod work;
 
+pub use block_put::put_named;
+pub use created::Created;
+pub use manifest_create::create;
+pub use pending::resolve;
 pub use publish::Publish;
-pub use work::{PutEnd, Work};
+pub use resolved::Resolved;
+pub use work::{BlockEnd, PutEnd, Work};
 
 #[cfg(test)]
 mod tests;

@@ -1,6 +1,6 @@
 ghost use Rattle.std.specs.Prelude.{◌≡◌, IsSome, MatchOption};
 ghost use Rattle.std.specs.Option.{option_map, option_copied};
-ghost use Rattle.bcv_publish.specs.Getting.{new_publish};
+ghost use Rattle.bcv_publish.specs.State.{new_publish};
 
 use crate::refused::Refused;
 use bcv_base::{Id16, Latest, Manifest};

@@ -32,19 +32,14 @@ struct OneObject {
 }
 
 impl Store for OneObject {
-    ghost use Rattle.std.specs.Prelude.{[]};
+    ghost use Rattle.std.specs.Prelude.{◌≤◌, []};
+    ghost use Rattle.bcv_store.specs.StoreShown.{StoreShown};
 
-    ghost tells = { ⊥ };
+    ghost told = { record { tells = ⊥; alone = ⊥; plans = ⊥ } };
 
-    ghost alone = { ⊥ };
+    ghost shown = { λ store. record { log = []; plan = []; faults = store.faults } };
 
-    ghost plans = { ⊥ };
-
-    ghost log = { λ _. [] };
-
-    ghost plan = { λ _. [] };
-
-    ghost faults = { λ store. store.faults };
+    ghost reaches = { λ old new. old.faults ≤ new.faults };
 
     fn get(
         &mut self,

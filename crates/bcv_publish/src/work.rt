@@ -1,3 +1,6 @@
+ghost use Rattle.std.specs.Prelude.{◌≡◌};
+ghost use Rattle.bcv_publish.specs.BlockPut.{block_work};
+
 use bcv_dbmap::EditFault;
 
 /// What a request of a task came to, short of the manifest's put.
@@ -37,4 +40,31 @@ pub enum PutEnd {
     /// The request failed, so it is open whether the version was appended.
     Unknown,
     NoMemory,
+}
+
+/// How the put of a block under a drawn name ended.
+#[derive(Clone, Copy, Debug, PartialEq, Eq)]
+pub enum BlockEnd {
+    /// The block is there, under the name that was drawn.
+    Stored,
+    /// The drawn name is that of a block.
+    NameTaken,
+    StoreFault,
+    NamesFault,
+    NoMemory,
+}
+
+impl BlockEnd {
+    /// Converts to the answer of the task that put the block.
+    pub fn work(self) -> Work
+        ensures { result ≡ block_work self }
+    {
+        match self {
+            BlockEnd::Stored => Work::More,
+            BlockEnd::NameTaken => Work::NameTaken,
+            BlockEnd::StoreFault => Work::StoreFault,
+            BlockEnd::NamesFault => Work::NamesFault,
+            BlockEnd::NoMemory => Work::NoMemory,
+        }
+    }
 }

@@ -22,6 +22,7 @@ use Rattle.bcv_store.specs.declared.store.Del.TheVariants as del
 use Rattle.bcv_store.specs.declared.store.Listed.{Listed}
 use Rattle.bcv_store.specs.declared.store.Listed.TheVariants as listed
 use Rattle.bcv_store.specs.Plans.{next_of, AreOthers}
+use Rattle.bcv_store.specs.StoreShown.{StoreTold, StoreShown}
 
 -- the object has this etag; where there is none, no etag is that of the object
 abbrev pub has_etag : Option Object → ℕ → Bool
@@ -46,14 +47,14 @@ GetAnswers o x unless most into (got.TooLong len) =
 GetAnswers o x unless most into got.Failed = o ≢ outcome.Ok
 GetAnswers o x unless most into got.NoMemory = Unit {0}
 
--- a get: others may have appended entries, and its answer speaks of the log with them
-pub record Gets (alone plans : Type 0) (plan : List Outcome) (before after : List Entry) (name : ObjName) (unless : Option ℕ) (most : ℕ) (into : List ℕ) (result : Got) : Type 0 where
+-- a get of a store that tells its log: others may have appended entries, and its answer speaks of the log with them
+pub record GetTold (store : StoreTold) (old new : StoreShown) (name : ObjName) (unless : Option ℕ) (most : ℕ) (into : List ℕ) (result : Got) : Type 0 where
   pub others : List Entry
-  pub by_others : AreOthers alone others
-  pub grown : after ≡ before ++ others
+  pub by_others : AreOthers store.alone others
+  pub grown : new.log ≡ old.log ++ others
   pub outcome : Outcome
-  pub planned : plans → outcome ≡ next_of plan
-  pub answers : GetAnswers outcome (object_of name after) unless most into result
+  pub planned : store.plans → outcome ≡ next_of old.plan
+  pub answers : GetAnswers outcome (object_of name new.log) unless most into result
 
 -- ---- put
 
@@ -85,13 +86,13 @@ PutAnswers o held log after name bytes put.Refused = (o ≡ outcome.Ok) × (held
 PutAnswers o held log after name bytes put.Failed = PutFails o held log after name bytes
 PutAnswers o held log after name bytes put.NoMemory = after ≡ log
 
--- a put: the entries of others stand before its own one, and its answer speaks of the log with them
-pub record Puts (alone plans : Type 0) (plan : List Outcome) (before after : List Entry) (name : ObjName) (cond : Cond) (bytes : List ℕ) (result : Put) : Type 0 where
+-- a put to a store that tells its log: the entries of others stand before its own one, and its answer speaks of the log with them
+pub record PutTold (store : StoreTold) (old new : StoreShown) (name : ObjName) (cond : Cond) (bytes : List ℕ) (result : Put) : Type 0 where
   pub others : List Entry
-  pub by_others : AreOthers alone others
+  pub by_others : AreOthers store.alone others
   pub outcome : Outcome
-  pub planned : plans → outcome ≡ next_of plan
-  pub answers : PutAnswers outcome (holds cond (object_of name (before ++ others))) (before ++ others) after name bytes result
+  pub planned : store.plans → outcome ≡ next_of old.plan
+  pub answers : PutAnswers outcome (holds cond (object_of name (old.log ++ others))) (old.log ++ others) new.log name bytes result
 
 -- ---- delete
 
@@ -107,13 +108,13 @@ DeleteAnswers o log after name at del.Done = (o ≡ outcome.Ok) × (after ≡ lo
 DeleteAnswers o log after name at del.Failed = DeleteFails o log after name at
 DeleteAnswers o log after name at del.NoMemory = after ≡ log
 
--- a delete: the entries of others stand before its own one
-pub record Deletes (alone plans : Type 0) (plan : List Outcome) (before after : List Entry) (name : ObjName) (at : ℕ) (result : Del) : Type 0 where
+-- a delete in a store that tells its log: the entries of others stand before its own one
+pub record DeleteTold (store : StoreTold) (old new : StoreShown) (name : ObjName) (at : ℕ) (result : Del) : Type 0 where
   pub others : List Entry
-  pub by_others : AreOthers alone others
+  pub by_others : AreOthers store.alone others
   pub outcome : Outcome
-  pub planned : plans → outcome ≡ next_of plan
-  pub answers : DeleteAnswers outcome (before ++ others) after name at result
+  pub planned : store.plans → outcome ≡ next_of old.plan
+  pub answers : DeleteAnswers outcome (old.log ++ others) new.log name at result
 
 -- ---- list
 
@@ -148,11 +149,11 @@ ListAnswers o log from into listed.End = (o ≡ outcome.Ok) × AreIdsAbove log f
 ListAnswers o log from into listed.Failed = o ≢ outcome.Ok
 ListAnswers o log from into listed.NoMemory = Unit {0}
 
--- a list: others may have appended entries, and its answer speaks of the log with them
-pub record Lists (alone plans : Type 0) (plan : List Outcome) (before after : List Entry) (from : Option Id16) (into : List Id16) (result : Listed) : Type 0 where
+-- a list of a store that tells its log: others may have appended entries, and its answer speaks of the log with them
+pub record ListTold (store : StoreTold) (old new : StoreShown) (from : Option Id16) (into : List Id16) (result : Listed) : Type 0 where
   pub others : List Entry
-  pub by_others : AreOthers alone others
-  pub grown : after ≡ before ++ others
+  pub by_others : AreOthers store.alone others
+  pub grown : new.log ≡ old.log ++ others
   pub outcome : Outcome
-  pub planned : plans → outcome ≡ next_of plan
-  pub answers : ListAnswers outcome after from into result
+  pub planned : store.plans → outcome ≡ next_of old.plan
+  pub answers : ListAnswers outcome new.log from into result

@@ -1,3 +1,5 @@
 pub mod Asked
 pub mod Plans
+pub mod Requests
+pub mod StoreShown
 pub mod Within

@@ -1,9 +1,6 @@
-ghost use Rattle.std.specs.Prelude.{◌≡◌, ℕ, ◌≤◌, true};
+ghost use Rattle.std.specs.Prelude.{true};
 ghost use Rattle.std.specs.Option.{option_copied};
-ghost use Rattle.bcv_base.specs.Faults.{Rose};
-ghost use Rattle.bcv_store.specs.Asked.{Gets, Puts, Deletes, Lists};
-ghost use Rattle.bcv_store.specs.Plans.{rest_of};
-ghost use Rattle.bcv_store.specs.Within.{IsGotWithin, IsListedWithin};
+ghost use Rattle.bcv_store.specs.Requests.{StoreGets, StorePuts, StoreDeletes, StoreLists};
 
 use bcv_base::{Id16, ObjName};
 use std::alloc::Global;
@@ -59,31 +56,21 @@ pub enum Listed {
 ///
 /// Where the store tells a plan, each request takes the first outcome away, whatever it answers.
 pub trait Store {
-    ghost use Rattle.std.specs.Prelude.{List};
-    ghost use Rattle.bcv_base.specs.declared.log.Entry.{Entry};
-    ghost use Rattle.bcv_base.specs.declared.outcome.Outcome.{Outcome};
+    ghost use Rattle.std.specs.Prelude.{◌≡◌, ◌≤◌};
     ghost use Rattle.bcv_base.specs.Log.{are_rising};
+    ghost use Rattle.bcv_store.specs.StoreShown.{StoreTold, StoreShown};
 
-    /// The store tells its log.
-    ghost tells: { Type 0 };
+    /// What all stores of this type tell: their log, that no one else appends to it, and the plan of their requests.
+    ghost told: { StoreTold };
 
-    /// No one else appends to the log.
-    ghost alone: { Type 0 };
+    /// What the store shows: its log, the outcomes of its next requests, and how many requests have failed.
+    ghost shown: { Self → StoreShown };
 
-    /// The store tells the outcomes of its next requests.
-    ghost plans: { Type 0 };
+    /// The second store is the first one after some of its calls.
+    ghost reaches: { Self → Self → Type 0 };
 
-    /// All entries so far, the oldest first.
-    ghost log: { Self → List Entry };
-
-    /// The outcomes of the next requests; past the last one each is `Ok`.
-    ghost plan: { Self → List Outcome };
-
-    /// How many requests have failed.
-    ghost faults: { Self → ℕ };
-
-    /// The object of a name, unless it has the etag `unless`. An object of at most `most` bytes is left in `into`, which is
-    /// empty after every answer but `Found`.
+    /// Answers with the object of a name, unless it has the etag `unless`. An object of at most `most` bytes is left in
+    /// `into`, which is empty after every answer but `Found`.
     fn get(
         &mut self,
         alloc: Global,
@@ -92,35 +79,34 @@ pub trait Store {
         into: &mut Vec<u8>,
         most: usize,
     ) -> Got
-        ensures told { tells → Gets alone plans (plan self.old) (log self.old) (log self.new) name.now unless most into.new.items result }
-        ensures taken { plans → plan self.new ≡ rest_of (plan self.old) }
-        ensures within { IsGotWithin unless most into.new.items result }
-        ensures later { faults self.old ≤ faults self.new }
-        ensures failed { result ≡ Got.Failed → Rose (faults self.old) (faults self.new) };
+        ensures gets { StoreGets told (shown self.old) (shown self.new) name.now unless most into.new.items result }
+        ensures reached { reaches self.old self.new };
 
     /// Puts an object under a name where the condition holds.
     fn put(&mut self, alloc: Global, name: &ObjName, cond: Cond, bytes: &[u8]) -> Put
-        ensures told { tells → Puts alone plans (plan self.old) (log self.old) (log self.new) name.now cond bytes.now result }
-        ensures taken { plans → plan self.new ≡ rest_of (plan self.old) }
-        ensures later { faults self.old ≤ faults self.new }
-        ensures failed { result ≡ Put.Failed → Rose (faults self.old) (faults self.new) };
+        ensures puts { StorePuts told (shown self.old) (shown self.new) name.now cond bytes.now result }
+        ensures reached { reaches self.old self.new };
 
     /// Deletes the object of a name, where there is one. `at` is the moment by which the caller decided, in seconds.
     fn delete(&mut self, alloc: Global, name: &ObjName, at: u64) -> Del
-        ensures told { tells → Deletes alone plans (plan self.old) (log self.old) (log self.new) name.now at result }
-        ensures taken { plans → plan self.new ≡ rest_of (plan self.old) }
-        ensures later { faults self.old ≤ faults self.new }
-        ensures failed { result ≡ Del.Failed → Rose (faults self.old) (faults self.new) };
+        ensures deletes { StoreDeletes told (shown self.old) (shown self.new) name.now at result }
+        ensures reached { reaches self.old self.new };
 
-    /// The ids of the blocks that are there, above `after`, the first 1,024 of them, left in `into`, which is empty after
-    /// `Failed` and `NoMemory`.
+    /// Lists the ids of the blocks that are there, above `after`, the first 1,024 of them, left in `into`, which is empty
+    /// after `Failed` and `NoMemory`.
     fn list(&mut self, alloc: Global, after: Option<&Id16>, into: &mut Vec<Id16>) -> Listed
-        ensures told { tells → Lists alone plans (plan self.old) (log self.old) (log self.new) (option_copied after.entry) into.new.items result }
-        ensures taken { plans → plan self.new ≡ rest_of (plan self.old) }
-        ensures within { IsListedWithin (option_copied after.entry) into.new.items result }
-        ensures later { faults self.old ≤ faults self.new }
-        ensures failed { result ≡ Listed.Failed → Rose (faults self.old) (faults self.new) };
+        ensures lists { StoreLists told (shown self.old) (shown self.new) (option_copied after.entry) into.new.items result }
+        ensures reached { reaches self.old self.new };
 
     /// Under each name the etags rise.
-    ghost rising: { (store : Self) → tells → are_rising (log store) ≡ true };
+    ghost rising: { (store : Self) → told.tells → are_rising (shown store).log ≡ true };
+
+    /// A store is itself after no call.
+    ghost same: { (store : Self) → reaches store store };
+
+    /// Calls after calls are calls.
+    ghost through: { (first second third : Self) → reaches first second → reaches second third → reaches first third };
+
+    /// No call lowers the count of faults.
+    ghost counted: { (old new : Self) → reaches old new → (shown old).faults ≤ (shown new).faults };
 }

@@ -19,7 +19,8 @@ use Rattle.bcv_model.specs.declared.event.Event.{Event}
 use Rattle.bcv_model.specs.declared.event.Event.TheVariants as event
 use Rattle.bcv_model.specs.declared.spec.WorldSpec.{WorldSpec}
 use Rattle.bcv_base.specs.ManifestRules.{is_block_size, is_page_size}
-use Rattle.bcv_model.specs.Words.{◌>>=◌, words_of, number_in, name_of, is_number, value_of, unhexed, padded, page_from, page_of_word, pages_of_words}
+use Rattle.bcv_base.specs.Padded.{padded}
+use Rattle.bcv_model.specs.Words.{◌>>=◌, words_of, number_in, name_of, is_number, value_of, unhexed, page_from, page_of_word, pages_of_words}
 use Rattle.bcv_model.specs.Script.{given, block_size_of, page_size_of_word, slots_of, world_of_words, world_of, create_of, new_of, begin_of, read_of, copy_of, drop_of, outcome_of, step_of, ask_of, act_of, event_of_words, event_of}
 use Rattle.bcv_world.specs.Given.{is_world, IsSpec, IsKeptOutcome, KeepsPages, KeepsAsk, Keeps}
 

@@ -61,7 +61,7 @@ splits_line taken rest line more lines s e f = record {
 
 led_leads : (w : Option World) (lines : List (List ℕ)) (replies : List Said) → Led w lines replies → Leads lines w replies
 led_leads None lines replies l = subst (λ (x : List (List ℕ)). Leads x None replies) (sym l.0) l.1
-led_leads (Some w) lines replies l = subst (λ (x : List (List ℕ)). Leads x (Some w) replies) (sym l.2) (l.3.h, l.3.a, l.3.fixes, l.3.runs)
+led_leads (Some w) lines replies l = subst (λ (x : List (List ℕ)). Leads x (Some w) replies) (sym l.2) (l.3.good, (l.3.h, l.3.a, l.3.fixes, l.3.runs))
 
 led_ready : (w : Option World) (lines : List (List ℕ)) (replies : List Said) → Led w lines replies → length lines < 2 ^ 62 → IsReady w
 led_ready None lines replies l h = tt

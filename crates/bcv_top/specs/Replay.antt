@@ -11,7 +11,7 @@ use Rattle.bcv_model.specs.MachineState.{State}
 use Rattle.bcv_model.specs.Machine.{History, Accepts}
 use Rattle.bcv_world.specs.declared.world.World.{World}
 use Rattle.bcv_world.specs.Given.{is_world}
-use Rattle.bcv_world.specs.Stands.{Mirrors}
+use Rattle.bcv_world.specs.Stands.{IsGood, Mirrors}
 
 -- the lines of text that replies are written as
 abbrev pub replies_text : List Said → List ℕ
@@ -31,10 +31,11 @@ pub record Fixes (line : List ℕ) (spec : WorldSpec) : Type 0 where
   pub read : world_of line ≡ Some spec
   pub built : is_world spec ≡ true
 
--- a script's lines lead to a world, with these replies; no line leads to no world, with none
+-- a script's lines lead to a world, which is good, so that its log is sound, with these replies; no line leads to no world,
+-- with none
 abbrev pub Leads : List (List ℕ) → Option World → List Said → Type 0
 Leads [] None replies = replies ≡ []
-Leads (first ∷ lines) (Some w) replies = (h : History) × (a : State) × Fixes first w.spec × Runs w h a lines replies
+Leads (first ∷ lines) (Some w) replies = IsGood w × ((h : History) × (a : State) × Fixes first w.spec × Runs w h a lines replies)
 Leads _ _ replies = ⊥
 
 -- no world is read, or one of a kind that is not built

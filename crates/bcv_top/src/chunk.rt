@@ -1,5 +1,5 @@
-ghost use Rattle.std.specs.Prelude.{◌≡◌, ◌≤◌, [], drop, length, IfOk};
-ghost use Rattle.bcv_base.specs.Streams.{TakeCause};
+ghost use Rattle.std.specs.Prelude.{◌≡◌, ◌≤◌, false, [], drop, length, IfOk};
+ghost use Rattle.bcv_base.specs.Streams.{TakeCause, is_end};
 ghost use Rattle.bcv_top.specs.Reading.{Refills};
 
 use bcv_base::{Source, Took};
@@ -60,6 +60,8 @@ impl Chunk {
 
     // Takes bytes in place of those that are here.
     pub fn refill<I: Source>(&mut self, input: &mut I) -> Took
+        requires unended { I.ended input.old ≡ false }
+        ensures ends { I.ended input.new ≡ is_end result }
         ensures bytes { Refills (I.left input.old) (I.left input.new) result self.new }
         ensures cause { TakeCause (I.faults input.old) (I.faults input.new) result }
     {

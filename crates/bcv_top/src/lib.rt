@@ -33,6 +33,7 @@ pub fn bcv_top<I: Source, O: Sink>(
     input: &mut I,
     out: &mut O,
 ) -> Status
+    requires unended { I.ended input.old ≡ false }
     ensures words { (result ≡ Status.BadWords) ↔ (is_replay (map string_bytes words.now) ≡ false) }
     ensures replays { (world : Option World) × (taken : List ℕ) × (written : List ℕ) × Consumes (I.left input.old) (I.left input.new) taken × Appends (O.given out.old) (O.given out.new) written × Replays result world taken (IsAtEnd (I.left input.new)) written }
     ensures causes { HasCauses (I.faults input.old) (I.faults input.new) (O.faults out.old) (O.faults out.new) result }

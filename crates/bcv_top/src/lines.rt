@@ -57,6 +57,8 @@ impl Lines {
 
     // Reads the next line into `line`, without its newline. The input is asked only where no line ends in what was taken.
     pub fn next<I: Source>(&mut self, input: &mut I) -> Next
+        requires unended { I.ended input.old ≡ false }
+        ensures goes_on { result ≡ Next.Line → I.ended input.new ≡ false }
         ensures read { (taken : List ℕ) × Consumes (I.left input.old) (I.left input.new) taken × GivesLine result self.old.used (self.old.chunk ++ taken) (IsAtEnd (I.left input.new)) self.new.line.items self.new.chunk }
         ensures counts { CountsLine result self.old.used self.new.used self.new.line.items }
         ensures later { I.faults input.old ≤ I.faults input.new }

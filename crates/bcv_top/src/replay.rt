@@ -1,4 +1,4 @@
-ghost use Rattle.std.specs.Prelude.{◌≡◌, ◌≢◌, ℕ, ◌^◌, ◌<◌, ◌≤◌, [], true, List, length, Err};
+ghost use Rattle.std.specs.Prelude.{◌≡◌, ◌≢◌, ℕ, ◌^◌, ◌<◌, ◌≤◌, [], true, false, List, length, Err};
 ghost use Rattle.std.specs.Io.KnownBytes.{Appends, Consumes, IsAtEnd};
 ghost use Rattle.bcv_base.specs.Faults.{Rose};
 ghost use Rattle.bcv_top.specs.Headline.{Replays, HasCauses};
@@ -41,6 +41,7 @@ impl Replayed {
 
 /// Replays the script of the input: line by line, each reply is written before more of the input is asked for.
 pub fn replay_top<I: Source, O: Sink>(alloc: Global, input: &mut I, out: &mut O) -> Replayed
+    requires unended { I.ended input.old ≡ false }
     ensures words { result.status ≢ Status.BadWords }
     ensures replays { (taken : List ℕ) × (written : List ℕ) × Consumes (I.left input.old) (I.left input.new) taken × Appends (O.given out.old) (O.given out.new) written × Replays result.status result.world taken (IsAtEnd (I.left input.new)) written }
     ensures causes { HasCauses (I.faults input.old) (I.faults input.new) (O.faults out.old) (O.faults out.new) result.status }

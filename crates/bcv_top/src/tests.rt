@@ -248,8 +248,9 @@ fn words(rt: HostRuntime) -> Result<(), Fail> {
     );
     words.push(format!(in alloc; "replay")?)?;
     words.push(format!(in alloc; "replay")?)?;
+    let mut again = MemSource::new(Vec::new(alloc), 1, Vec::new(alloc));
     assert_eq!(rt;
-        bcv_top(alloc, &words, &mut input, &mut output),
+        bcv_top(alloc, &words, &mut again, &mut output),
         Status::BadWords
     );
     Ok(())

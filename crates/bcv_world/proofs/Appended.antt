@@ -1,5 +1,5 @@
 -- What fits still does where a publishing task has ended: behind a manifest that was published, or with its publication pending.
-use Rattle.std.proofs.Common.{◌≡◌, inl, inr, ℕ, zero, suc, ◌+◌, ◌≤◌, Bool, true, false, ◌||◌, List, [], ◌∷◌, ◌++◌, append-nil, length, map, Option, Some, None, IfSome, is_some, Result, slice_get, get_or, remove, Vec, unwrap_or, length-append, refl, sym, ap, ◌∙◌, subst, arith}
+use Rattle.std.proofs.Common.{◌≡◌, ℕ, zero, suc, ◌+◌, ◌≤◌, Bool, true, false, ◌||◌, List, [], ◌∷◌, ◌++◌, append-nil, length, map, Option, Some, None, IfSome, is_some, Result, slice_get, get_or, remove, Vec, unwrap_or, length-append, refl, sym, ap, ◌∙◌, subst, arith}
 use Rattle.std.specs.declared.alloc.Global.{Global}
 use Rattle.std.specs.Option.{option_to_list}
 use Rattle.std.specs.List.{AllByRecursion}
@@ -9,8 +9,6 @@ use Rattle.bcv_base.specs.declared.log.Entry.TheVariants as entry
 use Rattle.bcv_base.specs.declared.manifest.DbEntry.{DbEntry}
 use Rattle.bcv_base.specs.declared.manifest.Manifest.{Manifest}
 use Rattle.bcv_base.specs.declared.object.ObjName.TheVariants as object
-use Rattle.bcv_base.specs.declared.outcome.Outcome.{Outcome}
-use Rattle.bcv_base.specs.declared.outcome.Outcome.TheVariants as outcome
 use Rattle.bcv_base.specs.declared.seen.Latest.{Latest}
 use Rattle.bcv_base.specs.History.{Item, Published, as_read, history_of, last_of, first_put}
 use Rattle.bcv_base.specs.HistoryLaws.{id_eq-is, history_of-more}
@@ -28,7 +26,7 @@ use Rattle.bcv_memstore.specs.Told.{log_of, plan_of}
 use Rattle.bcv_model.specs.declared.spec.WorldSpec.{WorldSpec}
 use Rattle.bcv_model.specs.MachineNotes.{intent_bytes, pending_client}
 use Rattle.bcv_model.specs.MachineState as m
-use Rattle.bcv_publish.specs.Putting.{IsPut, PutFails, IsAppended}
+use Rattle.bcv_publish.specs.ManifestAppend.{IsAppended}
 use Rattle.bcv_world.specs.declared.client.Client.{Client}
 use Rattle.bcv_world.specs.declared.task.Job.{Job}
 use Rattle.bcv_world.specs.declared.task.Job.TheVariants as job
@@ -38,7 +36,6 @@ use Rattle.bcv_world.specs.declared.world.World.{World}
 use Rattle.bcv_world.specs.Moves.{Runs, state_of}
 use Rattle.bcv_world.specs.Seen.{number_in, dbs_in, block_in, retention_in, seen, seen_known, seen_pending, seen_task, seen_txn, seen_txns}
 use Rattle.bcv_world.specs.Stands.{IsDrawn, IsUnpublished, Fits, FitsJob, FitsTask, FitsTxn, IsGood, job_ids, publication_ids}
-use Rattle.bcv_world.proofs.OwnGrowth.{AddsOwn}
 use Rattle.bcv_world.proofs.DrawnNames.{drawn_later, next_drawn}
 use Rattle.bcv_world.proofs.Going.{fits_out}
 use Rattle.bcv_world.proofs.Here.{here_at}
@@ -83,20 +80,7 @@ there does number (u ∷ us) zero t j is runs same =
     )
 there does number (u ∷ us) (suc place) t j is runs same = there does number us place t j is runs same
 
--- ---- what a request of one's own adds
-
--- where no others are
-pub adds_alone : (log others after : List Entry) → others ≡ [] → AddsOwn (log ++ others) after → AddsOwn log after
-adds_alone log others after none adds = subst (λ (l : List Entry). AddsOwn l after) (ap (λ (es : List Entry). log ++ es) none ∙ append-nil log) adds
-
-pub adds_put : (log after : List Entry) (n : Manifest) (etag : ℕ) → IsPut log after n etag → AddsOwn log after
-adds_put log after n etag is = inr (entry.Put true object.Manifest is.bytes etag, refl, is.added)
-
-pub adds_failed : (o : Outcome) (held : Bool) (log after : List Entry) (n : Manifest) → PutFails o held log after n → AddsOwn log after
-adds_failed outcome.Ok held log after n fails = absurd fails
-adds_failed outcome.Fail held log after n fails = inl fails
-adds_failed outcome.Lost true log after n fails = adds_put log after n fails.0 fails.1
-adds_failed outcome.Lost false log after n fails = inl fails
+-- ---- what a request appends
 
 -- the history behind a manifest that was appended
 pub appended_history : (log own after : List Entry) (n : Manifest) (etag : ℕ) → after ≡ log ++ own → IsAppended own n etag → history_of after ≡ Published n ∷ history_of log

@@ -1,5 +1,5 @@
 -- Why an edit can't be published over the last manifest, and why the machine's can't over the last version: the same reasons.
-use Rattle.std.proofs.Common.{◌≡◌, ◌∙◌, ℕ, ◌+◌, ◌-◌, ◌^◌, ◌<◌, ◌==◌, ◌⊎◌, inl, inr, Bool, true, false, true≢false, ◌&&◌, cond, List, [], ◌∷◌, length, map, Option, Some, None, is_some, is_none, IfSome, nat_lt, nat_le, if◌then◌else◌, refl, sym, ap, subst}
+use Rattle.std.proofs.Common.{◌≡◌, ◌∙◌, ℕ, ◌-◌, ◌^◌, ◌<◌, ◌==◌, ◌⊎◌, inl, inr, Bool, true, false, true≢false, ◌&&◌, cond, List, length, map, Option, Some, None, is_some, is_none, IfSome, nat_lt, nat_le, if◌then◌else◌, refl, sym, ap, subst}
 use Rattle.std.proofs.lemmas.List.{length-map}
 use Rattle.std.proofs.lemmas.Option.{same_Some}
 use Rattle.std.specs.Option.{option_map}
@@ -10,8 +10,9 @@ use Rattle.bcv_base.specs.History.{Item, last_of}
 use Rattle.bcv_base.specs.Image.{Page, or_else}
 use Rattle.bcv_base.specs.Joined.{database_of}
 use Rattle.bcv_base.specs.Keyed.{keyed}
+use Rattle.bcv_base.specs.BlockCounts.{all_blocks}
 use Rattle.bcv_base.specs.ManifestRules.{db_name, writer_id, blocks_needed}
-use Rattle.bcv_base.specs.Version.{Database, Version, the_name}
+use Rattle.bcv_base.specs.Version.{Version, the_name}
 use Rattle.bcv_base.specs.Versions.{version_of, versions_of}
 use Rattle.bcv_dbcopy.specs.State.{IsEdit}
 use Rattle.bcv_dbmap.specs.declared.fault.EditFault.{EditFault}
@@ -188,16 +189,6 @@ decided_is l p pages f is e =
 
 -- ---- want of room
 
--- the machine counts the blocks of all versions as the law does
-databases_alike : (block : ℕ) (ds : List Database) → machine.database_blocks block ds ≡ room.database_blocks block ds
-databases_alike block [] = refl
-databases_alike block (d ∷ ds) = ap (λ (n : ℕ). blocks_needed block d.page_size (length d.image) + n) (databases_alike block ds)
-
-blocks_alike : (block : ℕ) (vs : List Version) → machine.all_blocks block vs ≡ room.all_blocks block vs
-blocks_alike block [] = refl
-blocks_alike block (v ∷ vs) =
-    ap (λ (n : ℕ). n + machine.all_blocks block vs) (databases_alike block v.dbs) ∙ ap (λ (n : ℕ). room.database_blocks block v.dbs + n) (blocks_alike block vs)
-
 brings_few : (block : ℕ) (p : EditPlan) (pages : List Page) → IsEdit p pages → room.BringsFew block p
 brings_few block (edit.New e) pages is = is.name
 brings_few block (edit.Upload from e) pages is = absurd is
@@ -206,9 +197,9 @@ brings_few block (edit.Remove name) pages is = tt
 brings_few block (edit.Sweep ids) pages is = absurd is
 
 many_seen : (a : m.State) (past : List Item) (l : Manifest) (p : EditPlan) (pages : List Page) (writer : Id16) (f : EditFault) → Sound past → last_of past ≡ Some l → IsEdit p pages → a.versions ≡ versions_of past → a.block ≡ l.block
-    → checks.checked l p writer ≡ Some f → room.is_want_of_room f ≡ true → 1048576 < machine.all_blocks a.block a.versions
+    → checks.checked l p writer ≡ Some f → room.is_want_of_room f ≡ true → 1048576 < all_blocks a.block a.versions
 many_seen a past l p pages writer f sound last is versions block fails room_f =
-    subst (λ (n : ℕ). 1048576 < n) (sym (ap (λ (b : ℕ). machine.all_blocks b a.versions) block ∙ ap (machine.all_blocks l.block) versions ∙ blocks_alike l.block (versions_of past)))
+    subst (λ (n : ℕ). 1048576 < n) (sym (ap (λ (b : ℕ). all_blocks b a.versions) block ∙ ap (all_blocks l.block) versions))
     (full_is_many past l p writer f sound last (brings_few l.block p pages is) fails room_f)
 
 -- ---- a writer who is in the table
@@ -244,7 +235,7 @@ decided_faults a v kind fault.WritersFull is e = absurd (true≢false (sym is))
 decided_faults a v kind fault.DeleteListFull is e = absurd (true≢false (sym is))
 decided_faults a v kind fault.ManifestTooLong is e = absurd (true≢false (sym is))
 
-room_faults : (a : m.State) (v : Version) (kind : m.Kind) (f : EditFault) → room.is_want_of_room f ≡ true → machine.edit_fault a v kind ≡ None → 1048576 < machine.all_blocks a.block a.versions → machine.Faults a v kind (fault_reply f)
+room_faults : (a : m.State) (v : Version) (kind : m.Kind) (f : EditFault) → room.is_want_of_room f ≡ true → machine.edit_fault a v kind ≡ None → 1048576 < all_blocks a.block a.versions → machine.Faults a v kind (fault_reply f)
 room_faults a v kind fault.VersionsFull is e many = absurd (true≢false (sym is))
 room_faults a v kind fault.Exists is e many = absurd (true≢false (sym is))
 room_faults a v kind fault.PageTooLarge is e many = absurd (true≢false (sym is))

@@ -14,11 +14,11 @@ use Rattle.bcv_base.specs.Image.{Page}
 use Rattle.bcv_base.specs.Numbered.{numbered, numbered_names}
 use Rattle.bcv_base.specs.Version.{Version}
 use Rattle.bcv_base.specs.Versions.{version_of, versions_of}
-use Rattle.bcv_dbcopy.specs.Working.{AreOwnBlocks, HasBlocks}
+use Rattle.bcv_dbcopy.specs.TaskWork.{AreOwnBlocks, HasBlocks}
 use Rattle.bcv_dbmap.specs.declared.plan.EditPlan.{EditPlan}
 use Rattle.bcv_dbmap.specs.declared.plan.EditPlan.TheVariants as edit
 use Rattle.bcv_dbmap.specs.Past.{has_version}
-use Rattle.bcv_publish.specs.Putting.{IsOwnBlock}
+use Rattle.bcv_dbmap.specs.OwnBlock.{IsOwnBlock}
 use Rattle.bcv_world.specs.Stands.{IsDrawn}
 
 -- ---- one more name
@@ -51,7 +51,7 @@ own_by_more : (mine more : List Id16) → ((i : Id16) → has_id i mine ≡ true
     → AreOwnBlocks more past block size pages n ids
 own_by_more mine more has past block size pages n [] own = tt
 own_by_more mine more has past block size pages n (i ∷ is) own =
-    let one : IsOwnBlock more past block i = record { is_mine = has i own.0.is_mine; there = own.0.there; unlisted = own.0.unlisted } in
+    let one : IsOwnBlock more past block i = record { is_mine = has i own.0.is_mine; there = own.0.there; unlisted = own.0.unlisted; not_dead = own.0.not_dead } in
     (one, own.1, own_by_more mine more has past block size pages (suc n) is own.2)
 
 -- blocks that are mine are mine where more is

@@ -1,5 +1,5 @@
 -- What a step's own put adds to a log and a draw to the names, and that both are as a sound log wants them.
-use Rattle.std.proofs.Common.{◌≡◌, ◌∙◌, ℕ, ◌+◌, ◌<◌, ◌≤◌, ◌^◌, Bool, true, false, true≢false, ◌||◌, ◌⊎◌, inl, inr, cond, List, [], ◌∷◌, ◌++◌, length, length-append, append-nil, map, Option, Some, None, unwrap_or, slice_get, Vec, refl, sym, ap, subst, arith}
+use Rattle.std.proofs.Common.{◌≡◌, ◌∙◌, ℕ, ◌+◌, ◌<◌, ◌≤◌, ◌^◌, Bool, true, false, ◌||◌, cond, List, [], ◌∷◌, ◌++◌, length, length-append, append-nil, map, Option, Some, None, unwrap_or, slice_get, Vec, refl, sym, ap, arith}
 use Rattle.std.proofs.lemmas.List.{append_cancel_left}
 use Rattle.std.proofs.lemmas.List.FromFn.{length-map-range_with_len}
 use Rattle.bcv_base.specs.declared.id.Id16.{Id16}
@@ -10,30 +10,31 @@ use Rattle.bcv_base.specs.History.{Item, BlockPut, Published, Unreadable, BlockD
 use Rattle.bcv_base.specs.HistoryLaws.{first_put-stays}
 use Rattle.bcv_base.specs.Ids.{id_eq}
 use Rattle.bcv_base.specs.Image.{or_else}
-use Rattle.bcv_base.specs.Log.{is_own, object_after, object_of}
+use Rattle.bcv_base.specs.Log.{object_after, object_of}
 use Rattle.bcv_base.specs.ManifestGrammar.{manifest_of}
 use Rattle.bcv_base.specs.ManifestRules.{lists}
 use Rattle.bcv_base.specs.Numbered.{numbered, numbered_names}
 use Rattle.bcv_base.specs.Versions.{Reads, IsVersion}
-use Rattle.bcv_dbmap.specs.Honest.{AreHonest, GrewHonestly}
 use Rattle.bcv_dbmap.specs.Past.{was_listed}
 use Rattle.bcv_dbmap.proofs.Bools.{not_passed}
 use Rattle.bcv_base.specs.declared.outcome.Outcome.{Outcome}
 use Rattle.bcv_base.specs.Faults.{Rose}
-use Rattle.bcv_base.specs.Numbered.{Counter}
+use Rattle.bcv_base.specs.Numbered.{Counter, counted}
 use Rattle.bcv_base.specs.Version.{Version}
 use Rattle.bcv_base.specs.Versions.{versions_of}
 use Rattle.bcv_dbcopy.specs.State as copy
 use Rattle.bcv_dbcopy.specs.State.{IsTask}
-use Rattle.bcv_dbcopy.specs.Working.{Steps, WorkLeaves}
+use Rattle.bcv_dbcopy.specs.TaskWork.{TaskWorks, WorkLeaves}
 use Rattle.bcv_memstore.specs.declared.mem_store.MemStore.{MemStore}
-use Rattle.bcv_memstore.specs.Told.{log_of, plan_of}
+use Rattle.bcv_memstore.specs.Told.{log_of, plan_of, shown_by, told_here}
 use Rattle.bcv_model.specs.declared.reply.Reply.{Reply}
 use Rattle.bcv_model.specs.declared.spec.WorldSpec.{WorldSpec}
 use Rattle.bcv_model.specs.Machine.{KindSteps}
 use Rattle.bcv_model.specs.MachineState as m
 use Rattle.bcv_publish.specs.declared.work.Work.{Work}
 use Rattle.bcv_publish.specs.declared.work.Work.TheVariants as work
+use Rattle.bcv_store.specs.Plans.{rest_of}
+use Rattle.bcv_store.specs.StoreShown.{StoreShown}
 use Rattle.bcv_world.specs.declared.client.Client.{Client}
 use Rattle.bcv_world.specs.declared.task.Job.TheVariants as job
 use Rattle.bcv_world.specs.declared.task.Task.{Task}
@@ -46,21 +47,6 @@ use Rattle.bcv_world.proofs.DrawnNames.{names_more, next_undrawn}
 use Rattle.bcv_world.proofs.Here.{here_at, here_of}
 use Rattle.bcv_world.proofs.TaskLists.{each_at}
 use Rattle.std.specs.declared.alloc.Global.{Global}
-
--- ---- what was added
-
--- nothing, or one own entry
-abbrev pub AddsOwn : List Entry → List Entry → Type 0
-AddsOwn log after = (after ≡ log) ⊎ ((e : Entry) × (is_own e ≡ true) × (after ≡ log ++ e ∷ []))
-
-own_honest : (mine : List Id16) (past : List Item) (e : Entry) → is_own e ≡ true → AreHonest mine past (e ∷ [])
-own_honest mine past e own = ((λ foreign. absurd (true≢false (sym own ∙ foreign))), tt)
-
-pub grew_own : (mine : List Id16) (log after : List Entry) → AddsOwn log after → GrewHonestly mine log after
-grew_own mine log after (inl none) added is =
-    subst (AreHonest mine (history_of log)) (append_cancel_left log [] added (append-nil log ∙ sym none ∙ is)) tt
-grew_own mine log after (inr one) added is =
-    subst (AreHonest mine (history_of log)) (append_cancel_left log (one.0 ∷ []) added (sym one.2 ∙ is)) (own_honest mine (history_of log) one.0 one.1)
 
 -- ---- which name was drawn
 
@@ -170,6 +156,14 @@ shown_behind past later spec c v tasks noted versions txns are =
 
 -- ---- a step of work
 
+-- what the store shows before the step's request, whose outcome is planned
+abbrev pub planned_store : World → Outcome → ℕ → StoreShown
+planned_store w o faults = record { log = log_of w.store; plan = o ∷ []; faults = faults }
+
+-- the one outcome that is planned where none was
+pub planned_one : (o : Outcome) (before now : List Outcome) → before ≡ [] → now ≡ o ∷ rest_of before → now ≡ o ∷ []
+planned_one o before now none is = is ∙ ap (λ (os : List Outcome). o ∷ rest_of os) none
+
 -- what the task at a place, the store and the names said of a step of work
 pub record Worked (w : World) (place number : ℕ) (id : Id16) (s : copy.State) (o : Outcome) (r : Work) (new : copy.State) (store : MemStore) (names : Counter) : Type 0 where
   pub good : IsGood w
@@ -179,7 +173,8 @@ pub record Worked (w : World) (place number : ℕ) (id : Id16) (s : copy.State) 
   pub ready : copy.is_ready s ≡ false
   pub outcome : IsKeptOutcome o
   pub leaves : WorkLeaves s.publish.latest (seen_of w.client.latest) s r new
-  pub steps : Steps (Unit {0}) (Unit {0}) (Unit {0}) (o ∷ []) (Some (numbered_names w.names.count)) (Some (numbered_names names.count)) (log_of w.store) (log_of store) (seen_of w.client.latest) s r new
+  pub store_faults : ℕ
+  pub steps : TaskWorks told_here (planned_store w o store_faults) (shown_by store) (counted w.names) (counted names) (seen_of w.client.latest) s r new
   pub plan : plan_of store ≡ []
   pub faults : names.faults ≡ 0
   pub failed : r ≡ work.NamesFault → Rose w.names.faults names.faults

@@ -18,7 +18,7 @@ use Rattle.bcv_base.specs.Versions.{versions_of}
 use Rattle.bcv_dbcopy.specs.declared.plan.CopyPlan.{CopyPlan}
 use Rattle.bcv_dbcopy.specs.declared.plan.CopyPlan.TheVariants as plan
 use Rattle.bcv_dbcopy.specs.State as copy
-use Rattle.bcv_dbcopy.specs.Working.{HasBlocks}
+use Rattle.bcv_dbcopy.specs.TaskWork.{HasBlocks}
 use Rattle.bcv_dbmap.specs.declared.plan.EditPlan.{EditPlan}
 use Rattle.bcv_dbmap.specs.declared.plan.EditPlan.TheVariants as edit
 use Rattle.bcv_dbmap.specs.Past.{has_version}

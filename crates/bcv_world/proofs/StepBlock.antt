@@ -1,5 +1,5 @@
 -- The put of a block of a new database's task.
-use Rattle.std.proofs.Common.{◌≡◌, ◌≢◌, ◌∙◌, ℕ, zero, suc, ◌+◌, ◌-◌, ◌<◌, ◌≤◌, ◌^◌, ◌==◌, Bool, true, false, true≢false, ◌||◌, cond, List, [], ◌∷◌, ◌++◌, length, length-append, append-nil, append_assoc, map, Option, Some, None, is_none, IfSome, MatchOption, remove, insert, Vec, refl, sym, ap, subst, arith, inr}
+use Rattle.std.proofs.Common.{◌≡◌, ◌≢◌, ◌∙◌, ℕ, zero, suc, ◌+◌, ◌-◌, ◌<◌, ◌≤◌, ◌^◌, ◌==◌, Bool, true, false, true≢false, ◌||◌, cond, List, [], ◌∷◌, ◌++◌, length, length-append, append-nil, append_assoc, map, Option, Some, None, is_none, IfSome, MatchOption, remove, insert, Vec, refl, sym, ap, subst, arith, inl}
 use Rattle.std.specs.declared.alloc.Global.{Global}
 use Rattle.std.specs.List.{AllByRecursion}
 use Rattle.bcv_base.specs.declared.id.Id16.{Id16}
@@ -19,19 +19,18 @@ use Rattle.bcv_base.specs.Image.{Page, or_else}
 use Rattle.bcv_base.specs.Joined.{pages_of}
 use Rattle.bcv_base.specs.Log.{object_of}
 use Rattle.bcv_base.specs.ManifestRules.{blocks_needed}
-use Rattle.bcv_base.specs.Numbered.{Counter, numbered, numbered_names}
+use Rattle.bcv_base.specs.Numbered.{Counter, counted, numbered, numbered_names}
 use Rattle.bcv_base.specs.Versions.{versions_of}
 use Rattle.bcv_dbcopy.specs.State as copy
 use Rattle.bcv_dbcopy.specs.State.{IsEdit, IsFresh, IsTask, IsUnderWay, needed, put_ids, with_block}
-use Rattle.bcv_dbcopy.specs.Working.{AreFresh, BlockEnds, Grown, HasBlocks, OwnsBlocks, PutsBlock, Steps, WorkLeaves, Works, WorksSound, next_text}
+use Rattle.bcv_dbcopy.specs.TaskWork.{BlockEnds, HasBlocks, OwnsBlocks, PutsBlock, TaskWorks, WorkLeaves, WorkSound, WorkTold, next_text}
 use Rattle.bcv_dbcopy.proofs.Owned.{blocks_stay}
 use Rattle.bcv_dbmap.specs.declared.plan.EditPlan.{EditPlan}
 use Rattle.bcv_dbmap.specs.declared.plan.EditPlan.TheVariants as edit
-use Rattle.bcv_dbmap.specs.Honest.{GrewHonestly}
 use Rattle.bcv_dbmap.specs.Past.{has_version, was_deleted, was_listed}
 use Rattle.bcv_dbmap.specs.Sound.{Sound}
 use Rattle.bcv_memstore.specs.declared.mem_store.MemStore.{MemStore}
-use Rattle.bcv_memstore.specs.Told.{log_of}
+use Rattle.bcv_memstore.specs.Told.{log_of, shown_by, told_here}
 use Rattle.bcv_model.specs.declared.reply.Reply.{Reply}
 use Rattle.bcv_model.specs.declared.reply.Reply.TheVariants as reply
 use Rattle.bcv_model.specs.declared.spec.WorldSpec.{WorldSpec}
@@ -40,8 +39,11 @@ use Rattle.bcv_model.specs.MachineMiddle.{GoesOn}
 use Rattle.bcv_model.specs.MachineState as m
 use Rattle.bcv_publish.specs.declared.work.Work.{Work}
 use Rattle.bcv_publish.specs.declared.work.Work.TheVariants as work
-use Rattle.bcv_publish.specs.Getting.{IsKept}
+use Rattle.bcv_dbmap.specs.Kept.{IsKept}
+use Rattle.bcv_publish.specs.BlockPut.{AreFresh}
 use Rattle.bcv_store.specs.Asked.{PutFails}
+use Rattle.bcv_store.specs.Plans.{next_of}
+use Rattle.bcv_store.specs.StoreShown.{StoreShown}
 use Rattle.bcv_world.specs.declared.client.Client.{Client}
 use Rattle.bcv_world.specs.declared.task.Job.{Job}
 use Rattle.bcv_world.specs.declared.task.Job.TheVariants as job
@@ -55,7 +57,7 @@ use Rattle.bcv_world.specs.Stands.{Fits, FitsCopy, FitsJob, FitsLatest, FitsTask
 use Rattle.bcv_world.proofs.DrawnNames.{blocks_by_more, drawn_once_more, next_drawn}
 use Rattle.bcv_world.proofs.Going.{fits_back, fits_drawn, fits_out}
 use Rattle.bcv_world.proofs.Here.{here_at}
-use Rattle.bcv_world.proofs.OwnGrowth.{IsStepped, Worked, behind, fits_at, good_behind, grew_own, name_is, names_one, never_listed, never_there, next_unput, none_some, shown_behind}
+use Rattle.bcv_world.proofs.OwnGrowth.{IsStepped, Worked, behind, fits_at, good_behind, name_is, names_one, never_listed, never_there, next_unput, none_some, planned_store, shown_behind}
 use Rattle.bcv_world.proofs.StepGet.{Ends}
 use Rattle.bcv_world.proofs.TaskLists.{each_at, put_back, taken_out}
 
@@ -193,9 +195,11 @@ pub record Asked (log after : List Entry) (count now : ℕ) (s : copy.State) (o 
   pub bytes : List ℕ
   pub ends : BlockEnds o log after (numbered (count + 1)) bytes s r new
 
-pub asked_of : (log after : List Entry) (count now block : ℕ) (s : copy.State) (o : Outcome) (r : Work) (new : copy.State) (ids : List Id16) → numbered_names now ≡ numbered_names count ++ ids
-    → PutsBlock (Unit {0}) (Unit {0}) (o ∷ []) ids block log after s r new → Asked log after count now s o r new ids
-asked_of log after count now block s o r new ids adds told =
+pub asked_of : (old later : StoreShown) (count now block : ℕ) (s : copy.State) (o : Outcome) (r : Work) (new : copy.State) (ids : List Id16) → old.plan ≡ o ∷ [] → numbered_names now ≡ numbered_names count ++ ids
+    → PutsBlock told_here old later ids block s r new → Asked old.log later.log count now s o r new ids
+asked_of old later count now block s o r new ids plan adds told =
+    let log : List Entry = old.log in
+    let after : List Entry = later.log in
     let one : numbered_names now ≡ numbered_names count ++ told.id ∷ [] = adds ∙ ap (λ (x : List Id16). numbered_names count ++ x) told.drawn in
     let is : told.id ≡ numbered (count + 1) = name_is count now told.id one in
     let flat : log ++ told.others ≡ log = ap (λ (x : List Entry). log ++ x) (told.by_others.none tt) ∙ append-nil log in
@@ -204,7 +208,7 @@ asked_of log after count now block s o r new ids adds told =
       drawn = told.drawn ∙ ap (λ (x : Id16). x ∷ []) is;
       bytes = next_text block s s.edit;
       ends =
-          subst (λ (x : Outcome). BlockEnds x log after (numbered (count + 1)) (next_text block s s.edit) s r new) (told.next tt)
+          subst (λ (x : Outcome). BlockEnds x log after (numbered (count + 1)) (next_text block s s.edit) s r new) (told.next tt ∙ ap next_of plan)
           (subst (λ (x : Id16). BlockEnds told.outcome log after x (next_text block s s.edit) s r new) is
           (subst (λ (x : List Entry). BlockEnds told.outcome x after told.id (next_text block s s.edit) s r new) flat told.ends));
     }
@@ -220,23 +224,23 @@ fresh_next log spec count c ids small fits is = λ i h.
     first_of true h = refl
     first_of false h = h
 
-pub put_of : (log after : List Entry) (spec : WorldSpec) (count now : ℕ) (c : Client) (seen : Seen) (s : copy.State) (o : Outcome) (new : copy.State) (l : Latest) → count + 1 < 2 ^ 128 → Fits log spec count c → OwnsBlocks (numbered_names count) log s
-    → Steps (Unit {0}) (Unit {0}) (Unit {0}) (o ∷ []) (Some (numbered_names count)) (Some (numbered_names now)) log after seen s work.More new
-    → s.publish.latest ≡ Some l → IsPut log after count now s o new
-put_of log after spec count now c seen s o new l small fits owns steps some =
+pub put_of : (old later : StoreShown) (spec : WorldSpec) (names later_names : Counter) (c : Client) (seen : Seen) (s : copy.State) (o : Outcome) (new : copy.State) (l : Latest) → names.count + 1 < 2 ^ 128
+    → Fits old.log spec names.count c → OwnsBlocks (numbered_names names.count) old.log s → old.plan ≡ o ∷ []
+    → TaskWorks told_here old later (counted names) (counted later_names) seen s work.More new
+    → s.publish.latest ≡ Some l → IsPut old.log later.log names.count later_names.count s o new
+put_of old later spec names later_names c seen s o new l small fits owns plan steps some =
+    let count : ℕ = names.count in
     let mine : List Id16 = numbered_names (count + 1) in
-    let told : PutsBlock (Unit {0}) (Unit {0}) (o ∷ []) steps.ids l.manifest.block log after s work.More new =
-    subst (λ (x : Option Latest). Works (Unit {0}) (Unit {0}) (o ∷ []) steps.ids x log after seen s work.More new) some (steps.told tt)
+    let told : PutsBlock told_here old later steps.ids l.manifest.block s work.More new =
+    subst (λ (x : Option Latest). WorkTold told_here old later steps.ids x seen s work.More new) some (steps.told tt)
     in
-    let a = asked_of log after count now l.manifest.block s o work.More new steps.ids steps.drawn told in
-    let grown : after ≡ with_put log (numbered (count + 1)) a.bytes a.ends.0 = a.ends.3.added in
-    let honest : GrewHonestly mine log after = grew_own mine log after (inr (entry.Put true (object.Block (numbered (count + 1))) a.bytes a.ends.0, refl, grown)) in
-    let more : OwnsBlocks mine log s = blocks_by_more (numbered_names count) mine (λ i d. drawn_once_more count i d) (history_of log) s.pages s.edit s.block owns in
-    let whole : Grown (Unit {0}) mine log after new =
-    subst (λ (x : Option Latest). WorksSound (Unit {0}) (Unit {0}) (o ∷ []) mine x log after seen s work.More new) some
-    (steps.sound tt mine fits.sound honest more (fresh_next log spec count c steps.ids small fits a.drawn))
+    let a = asked_of old later count later_names.count l.manifest.block s o work.More new steps.ids plan steps.drawn told in
+    let grown : later.log ≡ with_put old.log (numbered (count + 1)) a.bytes a.ends.0 = a.ends.3.added in
+    let more : OwnsBlocks mine old.log s = blocks_by_more (numbered_names count) mine (λ i d. drawn_once_more count i d) (history_of old.log) s.pages s.edit s.block owns in
+    let whole : WorkSound told_here mine old later steps.ids seen s work.More new =
+    steps.sound tt mine fits.sound (inl tt) more (fresh_next old.log spec count c steps.ids small fits a.drawn)
     in
-    record { names = a.names; done = a.ends.1; bytes = a.bytes; etag = a.ends.0; grown = grown; is = a.ends.4; sound = whole.sound; owns = whole.blocks }
+    record { names = a.names; done = a.ends.1; bytes = a.bytes; etag = a.ends.0; grown = grown; is = a.ends.4; sound = whole.growth.sound; owns = whole.blocks }
 
 -- ---- a task that puts blocks
 
@@ -320,7 +324,7 @@ block_more w place number id s o new store names l k some v back =
     let old = fits_at w place number id s k.good k.at in
     let fits : FitsCopy log w.spec count id s = old.fits in
     let p = putting_of log w.spec count id s l k.task fits some k.ready in
-    let put = put_of log (log_of store) w.spec count names.count w.client (seen_of w.client.latest) s o new l (omega (arith, k.few, k.good.few_names)) k.good.fits fits.blocks k.steps some in
+    let put = put_of (planned_store w o k.store_faults) (shown_by store) w.spec w.names names w.client (seen_of w.client.latest) s o new l (omega (arith, k.few, k.good.few_names)) k.good.fits fits.blocks refl k.steps some in
     let hist : history_of (log_of store) ≡ BlockPut i put.bytes ∷ history_of log = ap history_of put.grown ∙ put_history log i put.bytes put.etag in
     let more : Fits log w.spec (count + 1) w.client = fits_drawn log w.spec count (count + 1) w.client k.good.fits (omega arith) in
     let sound : Sound (history_of (with_put log i put.bytes put.etag)) = subst (λ (x : List Entry). Sound (history_of x)) put.grown put.sound in
@@ -438,9 +442,9 @@ left_by : (w : World) (place number : ℕ) (id : Id16) (s : copy.State) (o : Out
 left_by w place number id s o r new store names l k some = subst (λ (x : Option Latest). WorkLeaves x (seen_of w.client.latest) s r new) some k.leaves
 
 told_by : (w : World) (place number : ℕ) (id : Id16) (s : copy.State) (o : Outcome) (r : Work) (new : copy.State) (store : MemStore) (names : Counter) (l : Latest) → (k : Worked w place number id s o r new store names)
-    → s.publish.latest ≡ Some l → Works (Unit {0}) (Unit {0}) (o ∷ []) k.steps.ids (Some l) (log_of w.store) (log_of store) (seen_of w.client.latest) s r new
+    → s.publish.latest ≡ Some l → WorkTold told_here (planned_store w o k.store_faults) (shown_by store) k.steps.ids (Some l) (seen_of w.client.latest) s r new
 told_by w place number id s o r new store names l k some =
-    subst (λ (x : Option Latest). Works (Unit {0}) (Unit {0}) (o ∷ []) k.steps.ids x (log_of w.store) (log_of store) (seen_of w.client.latest) s r new) some (k.steps.told tt)
+    subst (λ (x : Option Latest). WorkTold told_here (planned_store w o k.store_faults) (shown_by store) k.steps.ids x (seen_of w.client.latest) s r new) some (k.steps.told tt)
 
 pub block_ends : (w : World) (place number : ℕ) (id : Id16) (s : copy.State) (o : Outcome) (r : Work) (new : copy.State) (store : MemStore) (names : Counter) (left : ℕ) (l : Latest) → Worked w place number id s o r new store names
     → s.publish.latest ≡ Some l → Ends r → (v : Vec Task Global) → v.items ≡ remove w.client.tasks.items place → IsStepped w number id s o (reply_of r left) (behind w store names v)
@@ -455,13 +459,13 @@ block_ends w place number id s o (work.BadBlock len) new store names left l k so
 block_ends w place number id s o work.ClockFault new store names left l k some ends v out = absurd (left_by w place number id s o work.ClockFault new store names l k some)
 block_ends w place number id s o work.NamesFault new store names left l k some ends v out = absurd (rose_none w.names.faults names.faults k.good.names k.faults (k.failed refl))
 block_ends w place number id s o work.NameTaken new store names left l k some ends v out =
-    let a = asked_of (log_of w.store) (log_of store) w.names.count names.count l.manifest.block s o work.NameTaken new k.steps.ids k.steps.drawn (told_by w place number id s o work.NameTaken new store names l k some) in
+    let a = asked_of (planned_store w o k.store_faults) (shown_by store) w.names.count names.count l.manifest.block s o work.NameTaken new k.steps.ids refl k.steps.drawn (told_by w place number id s o work.NameTaken new store names l k some) in
     let small : w.names.count + 1 < 2 ^ 128 = omega (arith, k.few, k.good.few_names) in
     let none : object_of (object.Block (numbered (w.names.count + 1))) (log_of w.store) ≡ None =
     never_there (log_of w.store) (numbered (w.names.count + 1)) (next_unput (history_of (log_of w.store)) w.names.count small k.good.fits.put)
     in
     absurd (true≢false (ap is_none (sym none) ∙ a.ends.1))
 block_ends w place number id s o work.StoreFault new store names left l k some ends v out =
-    let a = asked_of (log_of w.store) (log_of store) w.names.count names.count l.manifest.block s o work.StoreFault new k.steps.ids k.steps.drawn (told_by w place number id s o work.StoreFault new store names l k some) in
+    let a = asked_of (planned_store w o k.store_faults) (shown_by store) w.names.count names.count l.manifest.block s o work.StoreFault new k.steps.ids refl k.steps.drawn (told_by w place number id s o work.StoreFault new store names l k some) in
     block_over w place number id s o new store names l k some
     (failed_of (log_of w.store) (log_of store) w.names.count names.count o (numbered (w.names.count + 1)) a.bytes a.names k.outcome a.ends) v out

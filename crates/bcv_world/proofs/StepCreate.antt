@@ -14,14 +14,13 @@ use Rattle.bcv_base.specs.History.{Item, Published, Always, history_of, last_of}
 use Rattle.bcv_base.specs.HistoryLaws.{last_is, no_version}
 use Rattle.bcv_base.specs.Numbered.{numbered, numbered_names}
 use Rattle.bcv_base.specs.Versions.{Reads, version_of, versions_of}
-use Rattle.bcv_dbcopy.specs.declared.created.Created.{Created}
-use Rattle.bcv_dbcopy.specs.declared.created.Created.TheVariants as created
-use Rattle.bcv_dbcopy.specs.Creating.{MayCreate, CreateEnds, Creates, SoundCreateEnds, CreatesSound}
+use Rattle.bcv_publish.specs.declared.created.Created.{Created}
+use Rattle.bcv_publish.specs.declared.created.Created.TheVariants as created
+use Rattle.bcv_publish.specs.ManifestCreate.{ManifestCreates, ManifestCreateSound, MayCreate, SoundCreateEnds}
 use Rattle.bcv_dbmap.specs.Applied.{first_manifest}
-use Rattle.bcv_dbmap.specs.Honest.{GrewHonestly}
 use Rattle.bcv_dbmap.specs.Sound.{Sound}
 use Rattle.bcv_memstore.specs.declared.mem_store.MemStore.{MemStore}
-use Rattle.bcv_memstore.specs.Told.{log_of, plan_of}
+use Rattle.bcv_memstore.specs.Told.{log_of, plan_of, told_here}
 use Rattle.bcv_model.specs.declared.reply.Reply.TheVariants as reply
 use Rattle.bcv_model.specs.declared.spec.WorldSpec.{WorldSpec}
 use Rattle.bcv_model.specs.MachineNotes.{intent_bytes, done_bytes, void_bytes}
@@ -29,6 +28,7 @@ use Rattle.bcv_model.specs.MachinePut.{Puts}
 use Rattle.bcv_model.specs.MachineState as m
 use Rattle.bcv_base.specs.Edits as edits
 use Rattle.bcv_store.specs.Plans.{next_of}
+use Rattle.bcv_store.specs.StoreShown.{StoreShown}
 use Rattle.bcv_world.specs.declared.client.Client.{Client}
 use Rattle.bcv_world.specs.declared.task.Job.TheVariants as job
 use Rattle.bcv_world.specs.declared.task.Task.{Task}
@@ -37,19 +37,12 @@ use Rattle.bcv_world.specs.Given.{IsKeptOutcome, stepped}
 use Rattle.bcv_world.specs.Moves.{Goes, plain, published}
 use Rattle.bcv_world.specs.Seen.{block_in, retention_in, number_in, dbs_in, seen, seen_job, seen_known, seen_pending, seen_task, seen_txns}
 use Rattle.bcv_world.specs.Stands.{FitsTask, IsDrawn, IsGood}
-use Rattle.bcv_world.proofs.OwnGrowth.{AddsOwn, grew_own}
-use Rattle.bcv_world.proofs.Appended.{IsNext, adds_alone, adds_failed, adds_put, alone, appended_history, ended_world, first_drawn, good_ended, good_put, good_waiting, put_client, same_log, shown_same, txns_published, waiting_client, waiting_same}
+use Rattle.bcv_world.proofs.Appended.{IsNext, alone, appended_history, ended_world, first_drawn, good_ended, good_put, good_waiting, put_client, same_log, shown_same, txns_published, waiting_client, waiting_same}
 use Rattle.bcv_world.proofs.Going.{goes_step}
 use Rattle.bcv_world.proofs.Here.{here_of, here_at}
 use Rattle.bcv_world.proofs.TaskLists.{each_at, taken_out}
 
--- ---- what is told, over the log of one client
-
-adds_of : (o : Outcome) (absent : Bool) (log after : List Entry) (n : Manifest) (result : Created) → CreateEnds o absent log after n result → AddsOwn log after
-adds_of o absent log after n (created.Done l) ends = adds_put log after n l.etag ends.2
-adds_of o absent log after n created.Exists ends = inl ends.2
-adds_of o absent log after n created.Unknown ends = adds_failed o absent log after n ends
-adds_of o absent log after n created.NoMemory ends = inl ends
+-- ---- how it ended
 
 -- how a create has ended behind a log, which stays sound
 pub record HasCreated (o : Outcome) (log after : List Entry) (n : Manifest) (result : Created) : Type 0 where
@@ -58,23 +51,19 @@ pub record HasCreated (o : Outcome) (log after : List Entry) (n : Manifest) (res
   pub sound : Sound (history_of after)
   pub ends : SoundCreateEnds o (last_of (history_of log)) own n result
 
--- what a create says of a sound log
-abbrev pub CreateSays : List Outcome → List Entry → List Entry → Id16 → Id16 → Manifest → Created → Type 0
-CreateSays planned before after writer id n result =
-    (mine : List Id16) → Sound (history_of before) → GrewHonestly mine before after → MayCreate mine before writer id → CreatesSound (Unit {0}) (Unit {0}) planned mine before after n result
-
-has_created : (mine : List Id16) (o : Outcome) (planned : List Outcome) (log after : List Entry) (n : Manifest) (result : Created) → planned ≡ o ∷ [] → CreatesSound (Unit {0}) (Unit {0}) planned mine log after n result
-    → HasCreated o log after n result
-has_created mine o planned log after n result is says =
-    let same : log ++ says.others ≡ log = ap (λ (es : List Entry). log ++ es) (says.none tt) ∙ append-nil log in
+has_created : (mine : List Id16) (o : Outcome) (old new : StoreShown) (n : Manifest) (result : Created) → old.plan ≡ o ∷ [] → ManifestCreateSound told_here mine old new n result
+    → HasCreated o old.log new.log n result
+has_created mine o old new n result is says =
+    let own = says.growth.own in
+    let same : old.log ++ says.growth.others ≡ old.log = ap (λ (es : List Entry). old.log ++ es) (says.growth.none tt) ∙ append-nil old.log in
     let out : says.outcome ≡ o = says.next tt ∙ ap next_of is in
     record {
-      own = says.own;
-      grown = says.grown ∙ ap (λ (l : List Entry). l ++ says.own) same;
-      sound = says.sound;
+      own = own;
+      grown = says.growth.grown ∙ ap (λ (l : List Entry). l ++ own) same;
+      sound = says.growth.sound;
       ends =
-          subst (λ (l : List Entry). SoundCreateEnds o (last_of (history_of l)) says.own n result) same
-          (subst (λ (x : Outcome). SoundCreateEnds x (last_of (history_of (log ++ says.others))) says.own n result) out says.ends);
+          subst (λ (l : List Entry). SoundCreateEnds o (last_of (history_of l)) own n result) same
+          (subst (λ (x : Outcome). SoundCreateEnds x (last_of (history_of (old.log ++ says.growth.others))) own n result) out says.ends);
     }
 
 -- a task that creates, in a world that is good
@@ -96,16 +85,15 @@ may_create w place number id block retention c =
       fresh = fits.fits.0.1;
     }
 
-pub create_ends : (w : World) (place number : ℕ) (id : Id16) (block retention : ℕ) (o : Outcome) (planned : List Outcome) (before after : List Entry) (result : Created) → CreatesAt w place number id block retention
-    → before ≡ log_of w.store → planned ≡ o ∷ [] → Creates (Unit {0}) (Unit {0}) planned before after (first_manifest block retention id w.client.id 0) result
-    → CreateSays planned before after w.client.id id (first_manifest block retention id w.client.id 0) result → HasCreated o (log_of w.store) after (first_manifest block retention id w.client.id 0) result
-create_ends w place number id block retention o planned before after result c same is told says =
+pub create_ends : (w : World) (place number : ℕ) (id : Id16) (block retention : ℕ) (o : Outcome) (old new : StoreShown) (result : Created) → CreatesAt w place number id block retention
+    → old.log ≡ log_of w.store → old.plan ≡ o ∷ [] → ManifestCreates told_here old new w.client.id id (first_manifest block retention id w.client.id 0) result
+    → HasCreated o (log_of w.store) new.log (first_manifest block retention id w.client.id 0) result
+create_ends w place number id block retention o old new result c same is creates =
     let mine = numbered_names w.names.count in
     let first = first_manifest block retention id w.client.id 0 in
-    subst (λ (l : List Entry). HasCreated o l after first result) same (
-    has_created mine o planned before after first result is (
-    says mine (subst (λ (l : List Entry). Sound (history_of l)) (sym same) c.good.fits.sound)
-    (grew_own mine before after (adds_alone before told.others after (told.by_others.none tt) (adds_of told.outcome _ (before ++ told.others) after first result told.ends)))
+    subst (λ (l : List Entry). HasCreated o l new.log first result) same (
+    has_created mine o old new first result is (
+    creates.sound tt mine (subst (λ (l : List Entry). Sound (history_of l)) (sym same) c.good.fits.sound) (inl tt)
     (subst (λ (l : List Entry). MayCreate mine l w.client.id id) (sym same) (may_create w place number id block retention c))
     )
     )

@@ -15,21 +15,21 @@ use Rattle.bcv_base.specs.HistoryLaws.{no_version}
 use Rattle.bcv_base.specs.Image.{Page}
 use Rattle.bcv_base.specs.Keyed.{keyed}
 use Rattle.bcv_base.specs.ManifestRules.{blocks_needed, writer_id}
-use Rattle.bcv_base.specs.Numbered.{Counter, numbered, numbered_names}
+use Rattle.bcv_base.specs.Numbered.{Counter, counted, numbered, numbered_names}
 use Rattle.bcv_base.specs.Version.{Version}
 use Rattle.bcv_base.specs.Versions.{version_of, versions_of}
 use Rattle.bcv_dbcopy.specs.State as copy
 use Rattle.bcv_dbcopy.specs.State.{IsEdit, IsFresh, IsTask, IsUnderWay, put_ids}
-use Rattle.bcv_dbcopy.specs.Working.{AreFresh, DrawsFor, Grown, OwnsBlocks, Steps, WorkLeaves, Works, WorksSound, block_known, with_publish}
+use Rattle.bcv_dbcopy.specs.TaskWork.{DrawsFor, OwnsBlocks, SoundWorkEnds, TaskWorks, WorkLeaves, WorkSound, WorkTold, block_known, with_publish}
 use Rattle.bcv_dbmap.specs.declared.fault.EditFault.{EditFault}
 use Rattle.bcv_dbmap.specs.declared.fault.EditFault.TheVariants as fault
 use Rattle.bcv_dbmap.specs.declared.plan.EditPlan.{EditPlan}
 use Rattle.bcv_dbmap.specs.declared.plan.EditPlan.TheVariants as edit
 use Rattle.bcv_dbmap.specs.Checked.{checked}
-use Rattle.bcv_dbmap.specs.Honest.{GrewHonestly}
+use Rattle.bcv_dbmap.specs.Kept.{IsKept}
 use Rattle.bcv_dbmap.specs.Sound.{Sound}
 use Rattle.bcv_memstore.specs.declared.mem_store.MemStore.{MemStore}
-use Rattle.bcv_memstore.specs.Told.{log_of}
+use Rattle.bcv_memstore.specs.Told.{log_of, shown_by, told_here}
 use Rattle.bcv_model.specs.declared.reply.Reply.{Reply}
 use Rattle.bcv_model.specs.declared.reply.Reply.TheVariants as reply
 use Rattle.bcv_model.specs.declared.spec.WorldSpec.{WorldSpec}
@@ -38,9 +38,13 @@ use Rattle.bcv_model.specs.MachineGet.{Faults, Gets, LeftBehind}
 use Rattle.bcv_model.specs.MachineState as m
 use Rattle.bcv_publish.specs.declared.work.Work.{Work}
 use Rattle.bcv_publish.specs.declared.work.Work.TheVariants as work
-use Rattle.bcv_publish.specs.Getting as getting
-use Rattle.bcv_publish.specs.Getting.{GetLeaves, GetsSound, SoundGetEnds, IsKept, unlike, is_past, is_other, with_latest}
+use Rattle.bcv_publish.specs.BlockPut.{AreFresh}
+use Rattle.bcv_publish.specs.ManifestGet.{GetLeaves, ManifestGetTold, SoundGetEnds}
+use Rattle.bcv_publish.specs.ManifestRead.{unlike, is_past, is_other}
 use Rattle.bcv_publish.specs.State as publish
+use Rattle.bcv_publish.specs.State.{with_latest}
+use Rattle.bcv_store.specs.Plans.{next_of}
+use Rattle.bcv_store.specs.StoreShown.{StoreShown}
 use Rattle.bcv_world.specs.declared.client.Client.{Client}
 use Rattle.bcv_world.specs.declared.task.Job.TheVariants as job
 use Rattle.bcv_world.specs.declared.task.Task.{Task}
@@ -52,7 +56,7 @@ use Rattle.bcv_world.specs.Stands.{Fits, FitsCopy, FitsLatest, IsGood, IsLatest}
 use Rattle.bcv_world.proofs.Checks.{faults_seen, passes_seen}
 use Rattle.bcv_world.proofs.Going.{fits_back, fits_out}
 use Rattle.bcv_world.proofs.Here.{here_at, here_of, last_at}
-use Rattle.bcv_world.proofs.OwnGrowth.{IsStepped, Worked, behind, fits_at, good_behind, grew_own, names_same, none_some, shown_behind}
+use Rattle.bcv_world.proofs.OwnGrowth.{IsStepped, Worked, behind, fits_at, good_behind, names_same, none_some, planned_store, shown_behind}
 use Rattle.bcv_world.proofs.TaskLists.{put_back, taken_out}
 
 -- ---- what the get did
@@ -67,31 +71,32 @@ pub record IsGet (log after : List Entry) (count now : ℕ) (seen : Seen) (s : c
   pub is : new ≡ with_publish s now_publish
   pub blocks : OwnsBlocks (numbered_names count) log new
 
-pub get_of : (log after : List Entry) (count now : ℕ) (seen : Seen) (s : copy.State) (o : Outcome) (r : Work) (new : copy.State) → Sound (history_of log) → OwnsBlocks (numbered_names count) log s
-    → Steps (Unit {0}) (Unit {0}) (Unit {0}) (o ∷ []) (Some (numbered_names count)) (Some (numbered_names now)) log after seen s r new
-    → WorkLeaves s.publish.latest seen s r new → s.publish.latest ≡ None → IsGet log after count now seen s o r new
-get_of log after count now seen s o r new sound owns steps leaves none =
-    let told : getting.Gets (Unit {0}) (Unit {0}) (o ∷ []) log after seen s.edit s.publish r new.publish =
-    subst (λ (x : Option Latest). Works (Unit {0}) (Unit {0}) (o ∷ []) steps.ids x log after seen s r new) none (steps.told tt)
+pub get_of : (old later : StoreShown) (names later_names : Counter) (seen : Seen) (s : copy.State) (o : Outcome) (r : Work) (new : copy.State) → old.plan ≡ o ∷ [] → Sound (history_of old.log)
+    → OwnsBlocks (numbered_names names.count) old.log s → TaskWorks told_here old later (counted names) (counted later_names) seen s r new
+    → WorkLeaves s.publish.latest seen s r new → s.publish.latest ≡ None → IsGet old.log later.log names.count later_names.count seen s o r new
+get_of old later names later_names seen s o r new plan sound owns steps leaves none =
+    let mine : List Id16 = numbered_names names.count in
+    let told : ManifestGetTold told_here old later seen s.edit s.publish r new.publish =
+    subst (λ (x : Option Latest). WorkTold told_here old later steps.ids x seen s r new) none (steps.told tt)
     in
-    let same : after ≡ log = told.grown ∙ ap (λ (x : List Entry). log ++ x) (told.by_others.none tt) ∙ append-nil log in
-    let ids : steps.ids ≡ [] = subst (λ (x : Option Latest). DrawsFor x s r new steps.ids) none steps.names in
-    let honest : GrewHonestly (numbered_names count) log after = grew_own (numbered_names count) log after (inl same) in
-    let fresh : AreFresh (numbered_names count) log steps.ids = subst (AreFresh (numbered_names count) log) (sym ids) (λ i h. absurd cc) in
-    let whole : Grown (Unit {0}) (numbered_names count) log after new × GetsSound (Unit {0}) (Unit {0}) (o ∷ []) (numbered_names count) log after seen s.edit s.publish r new.publish =
-    subst (λ (x : Option Latest). WorksSound (Unit {0}) (Unit {0}) (o ∷ []) (numbered_names count) x log after seen s r new) none (steps.sound tt (numbered_names count) sound honest owns fresh)
+    let same : later.log ≡ old.log = told.grown ∙ ap (λ (x : List Entry). old.log ++ x) (told.by_others.none tt) ∙ append-nil old.log in
+    let ids : steps.ids ≡ [] = subst (λ (x : Option Latest). DrawsFor x s r new steps.ids) none steps.draws in
+    let fresh : AreFresh mine old.log steps.ids = subst (AreFresh mine old.log) (sym ids) (λ i h. absurd cc) in
+    let whole : WorkSound told_here mine old later steps.ids seen s r new = steps.sound tt mine sound (inl tt) owns fresh in
+    let ends : (whole.growth.own ≡ []) × SoundGetEnds whole.outcome later.log seen s.edit s.publish r new.publish =
+    subst (λ (x : Option Latest). SoundWorkEnds whole.outcome old.log later.log whole.growth.own steps.ids x seen s r new) none whole.ends
     in
     let left : (p : publish.State) × GetLeaves seen s.edit s.publish r p × (new ≡ with_publish s p) = subst (λ (x : Option Latest). WorkLeaves x seen s r new) none leaves in
     record {
-      same_names = names_same count now (steps.drawn ∙ ap (λ (x : List Id16). numbered_names count ++ x) ids);
+      same_names = names_same names.count later_names.count (steps.drawn ∙ ap (λ (x : List Id16). mine ++ x) ids);
       same_log = same;
       ends =
-          subst (λ (x : Outcome). SoundGetEnds x log seen s.edit s.publish r new.publish) (whole.1.next tt)
-          (subst (λ (x : List Entry). SoundGetEnds whole.1.outcome x seen s.edit s.publish r new.publish) same whole.1.ends);
+          subst (λ (x : Outcome). SoundGetEnds x old.log seen s.edit s.publish r new.publish) (whole.next tt ∙ ap next_of plan)
+          (subst (λ (x : List Entry). SoundGetEnds whole.outcome x seen s.edit s.publish r new.publish) same ends.1);
       now_publish = left.0;
       leaves = left.1;
       is = left.2;
-      blocks = subst (λ (x : List Entry). OwnsBlocks (numbered_names count) x new) same whole.0.blocks;
+      blocks = subst (λ (x : List Entry). OwnsBlocks mine x new) same whole.blocks;
     }
 
 -- ---- a task that has read nothing
@@ -214,7 +219,7 @@ module _ (w : World) (place number : ℕ) (id : Id16) (s : copy.State) (o : Outc
       record {
         fits = fits;
         unread = unread_of (log_of w.store) w.spec w.names.count id s k.task fits none;
-        got = get_of (log_of w.store) (log_of store) w.names.count names.count (seen_of w.client.latest) s o r new k.good.fits.sound fits.blocks k.steps k.leaves none;
+        got = get_of (planned_store w o k.store_faults) (shown_by store) w.names names (seen_of w.client.latest) s o r new refl k.good.fits.sound fits.blocks k.steps k.leaves none;
       }
 
   -- the task ends

@@ -1,5 +1,5 @@
 -- The manifest's put of a task that is ready, as the machine takes it.
-use Rattle.std.proofs.Common.{◌≡◌, ◌⊎◌, inl, inr, ℕ, ◌+◌, ◌≤◌, ◌==◌, Bool, true, List, [], ◌∷◌, ◌++◌, append-nil, length, map, Option, Some, None, IfSome, MatchOption, is_some, slice_get, remove, Vec, refl, sym, ap, ◌∙◌, subst, arith}
+use Rattle.std.proofs.Common.{◌≡◌, ◌⊎◌, inl, inr, ℕ, ◌+◌, ◌≤◌, ◌==◌, true, List, [], ◌∷◌, ◌++◌, append-nil, length, map, Option, Some, None, IfSome, MatchOption, is_some, slice_get, remove, Vec, refl, sym, ap, ◌∙◌, subst, arith}
 use Rattle.std.proofs.lemmas.Bool.{eqb-true}
 use Rattle.std.proofs.lemmas.List.{append_cancel_left}
 use Rattle.std.proofs.lemmas.Option.{same_Some}
@@ -27,8 +27,8 @@ use Rattle.bcv_base.specs.Version.{Version}
 use Rattle.bcv_base.specs.Versions.{Reads, version_of, versions_of}
 use Rattle.bcv_dbcopy.proofs.PagesLaws.{blocks_are_the_pages}
 use Rattle.bcv_dbcopy.proofs.Tasks.{some_kept}
-use Rattle.bcv_dbcopy.specs.Putting as putting
-use Rattle.bcv_dbcopy.specs.Putting.{MayPut, edit_made}
+use Rattle.bcv_dbcopy.specs.TaskPut as putting
+use Rattle.bcv_dbcopy.specs.TaskPut.{MayPut, edit_made}
 use Rattle.bcv_dbcopy.specs.State as copy
 use Rattle.bcv_dbcopy.specs.State.{IsEdit, IsTask}
 use Rattle.bcv_dbmap.proofs.Appends.{appends_edit}
@@ -36,11 +36,10 @@ use Rattle.bcv_dbmap.proofs.Keys.{by_place, by_removal, by_test, keyed_at, keyed
 use Rattle.bcv_dbmap.specs.Applied.{dbs_after, edit_of}
 use Rattle.bcv_dbmap.specs.declared.plan.EditPlan.{EditPlan}
 use Rattle.bcv_dbmap.specs.declared.plan.EditPlan.TheVariants as edit
-use Rattle.bcv_dbmap.specs.Honest.{GrewHonestly}
 use Rattle.bcv_dbmap.specs.Past.{has_version}
 use Rattle.bcv_dbmap.specs.Sound.{Sound}
 use Rattle.bcv_memstore.specs.declared.mem_store.MemStore.{MemStore}
-use Rattle.bcv_memstore.specs.Told.{log_of, plan_of}
+use Rattle.bcv_memstore.specs.Told.{log_of, plan_of, told_here}
 use Rattle.bcv_model.specs.declared.reply.Reply.TheVariants as reply
 use Rattle.bcv_model.specs.declared.reply.Said.{Said}
 use Rattle.bcv_model.specs.declared.spec.WorldSpec.{WorldSpec}
@@ -50,9 +49,10 @@ use Rattle.bcv_model.specs.MachinePut.{IsEdited, Makes, Puts, block_after, reten
 use Rattle.bcv_model.specs.MachineState as m
 use Rattle.bcv_publish.specs.declared.work.PutEnd.{PutEnd}
 use Rattle.bcv_publish.specs.declared.work.PutEnd.TheVariants as put
-use Rattle.bcv_publish.specs.Putting as publishing
-use Rattle.bcv_publish.specs.Putting.{PutEnds, PutsSound, SoundPutEnds, made}
+use Rattle.bcv_publish.specs.ManifestPut.{ManifestPuts, ManifestPutSound, PutTakes, SoundPutEnds, made}
+use Rattle.bcv_publish.specs.Request.{OverSoundLog}
 use Rattle.bcv_store.specs.Plans.{next_of, rest_of}
+use Rattle.bcv_store.specs.StoreShown.{StoreShown}
 use Rattle.bcv_world.specs.declared.client.Client.{Client}
 use Rattle.bcv_world.specs.declared.task.Job.TheVariants as job
 use Rattle.bcv_world.specs.declared.task.Task.{Task}
@@ -61,8 +61,7 @@ use Rattle.bcv_world.specs.Given.{IsKeptOutcome, stepped}
 use Rattle.bcv_world.specs.Moves.{Goes, plain, published, state_of}
 use Rattle.bcv_world.specs.Seen.{block_in, retention_in, number_in, kind_of, read_number, seen, seen_copy, seen_known, seen_pending, seen_task, seen_txns}
 use Rattle.bcv_world.specs.Stands.{FitsCopy, FitsLatest, FitsTask, HasPageSize, IsDrawn, IsGood, IsLastRead, IsLatest}
-use Rattle.bcv_world.proofs.OwnGrowth.{AddsOwn, grew_own}
-use Rattle.bcv_world.proofs.Appended.{IsNext, adds_alone, adds_failed, adds_put, alone, appended_history, ended_world, first_drawn, good_put, good_waiting, put_client, same_log, shown_same, txns_published, waiting_client, waiting_same}
+use Rattle.bcv_world.proofs.Appended.{IsNext, alone, appended_history, ended_world, first_drawn, good_put, good_waiting, put_client, same_log, shown_same, txns_published, waiting_client, waiting_same}
 use Rattle.bcv_world.proofs.Going.{goes_step}
 use Rattle.bcv_world.proofs.Here.{here_of, here_at, last_at}
 use Rattle.bcv_world.proofs.TaskLists.{each_at, taken_out}
@@ -110,14 +109,7 @@ knows w place number id s read p = by_latest w.client.latest refl p.good.fits.la
     by_latest (Some kept) same latest =
         record { fits = fits; last = is_last; kept = kept; same = same; manifest = same_Some kept.manifest read.manifest (sym latest.last ∙ is_last.last); latest = latest }
 
--- ---- what is told, over the log of one client
-
-adds_of : (o : Outcome) (held : Bool) (log after : List Entry) (n : Manifest) (result : PutEnd) (kept : Option Latest) → PutEnds o held log after n result kept → AddsOwn log after
-adds_of o held log after n (put.Published k) kept ends = adds_put log after n ends.0 ends.3
-adds_of o held log after n put.Refused kept ends = inl ends.2
-adds_of o held log after n (put.Contended numbers) kept ends = inl ends.2
-adds_of o held log after n put.Unknown kept ends = adds_failed o held log after n ends
-adds_of o held log after n put.NoMemory kept ends = inl ends
+-- ---- how it ended
 
 -- how a put has ended behind a log whose last manifest is the one that was read, and which stays sound
 pub record HasPut (o : Outcome) (log after : List Entry) (read : Latest) (n : Manifest) (result : PutEnd) (kept : Option Latest) : Type 0 where
@@ -126,29 +118,28 @@ pub record HasPut (o : Outcome) (log after : List Entry) (read : Latest) (n : Ma
   pub sound : Sound (history_of after)
   pub ends : SoundPutEnds o own read.manifest read n result kept
 
--- what a put tells of any log
-abbrev pub PutTold : List Outcome → List Entry → List Entry → copy.State → PutEnd → copy.State → Type 0
-PutTold planned before after s result new = MatchOption s.publish.latest ⊥ (λ read. publishing.Puts (Unit {0}) (Unit {0}) planned before after s.publish read s.edit 0 result new.publish)
+-- what a put says of the store at the task's manifest, and of a sound log
+abbrev pub PutSays : StoreShown → StoreShown → copy.State → PutEnd → copy.State → Type 0
+PutSays old new s result t =
+    OverSoundLog told_here old new (λ mine. MatchOption s.publish.latest ⊥ (λ read. MayPut mine old.log s read → ManifestPutSound told_here mine old new s.publish read s.edit 0 result t.publish))
 
--- what a put says of a sound log
-abbrev pub PutSays : List Outcome → List Entry → List Entry → copy.State → PutEnd → copy.State → Type 0
-PutSays planned before after s result new =
-    (mine : List Id16) → Sound (history_of before) → GrewHonestly mine before after
-    → MatchOption s.publish.latest ⊥ (λ read. MayPut mine before s read → PutsSound (Unit {0}) (Unit {0}) planned mine before after s.publish read s.edit 0 result new.publish)
+abbrev pub PutTold : StoreShown → StoreShown → copy.State → PutEnd → copy.State → Type 0
+PutTold old new s result t = MatchOption s.publish.latest ⊥ (λ read. ManifestPuts told_here old new s.publish read s.edit 0 result t.publish)
 
-has_put : (mine : List Id16) (o : Outcome) (planned : List Outcome) (log after : List Entry) (s new : copy.State) (read : Latest) (result : PutEnd) → planned ≡ o ∷ [] → last_of (history_of log) ≡ Some read.manifest
-    → PutsSound (Unit {0}) (Unit {0}) planned mine log after s.publish read s.edit 0 result new.publish → HasPut o log after read (made s.publish read s.edit 0) result new.publish.latest
-has_put mine o planned log after s new read result is last says =
-    let same : log ++ says.others ≡ log = ap (λ (es : List Entry). log ++ es) (says.none tt) ∙ append-nil log in
+has_put : (mine : List Id16) (o : Outcome) (old new : StoreShown) (s t : copy.State) (read : Latest) (result : PutEnd) → old.plan ≡ o ∷ [] → last_of (history_of old.log) ≡ Some read.manifest
+    → ManifestPutSound told_here mine old new s.publish read s.edit 0 result t.publish → HasPut o old.log new.log read (made s.publish read s.edit 0) result t.publish.latest
+has_put mine o old new s t read result is last says =
+    let own = says.growth.own in
+    let same : old.log ++ says.growth.others ≡ old.log = ap (λ (es : List Entry). old.log ++ es) (says.growth.none tt) ∙ append-nil old.log in
     let out : says.outcome ≡ o = says.next tt ∙ ap next_of is in
     let still : says.last ≡ read.manifest = same_Some says.last read.manifest (sym says.is_last ∙ ap (λ (l : List Entry). last_of (history_of l)) same ∙ last) in
     record {
-      own = says.own;
-      grown = says.grown ∙ ap (λ (l : List Entry). l ++ says.own) same;
-      sound = says.sound;
+      own = own;
+      grown = says.growth.grown ∙ ap (λ (l : List Entry). l ++ own) same;
+      sound = says.growth.sound;
       ends =
-          subst (λ (k : Manifest). SoundPutEnds o says.own k read (made s.publish read s.edit 0) result new.publish.latest) still
-          (subst (λ (x : Outcome). SoundPutEnds x says.own says.last read (made s.publish read s.edit 0) result new.publish.latest) out says.ends);
+          subst (λ (k : Manifest). SoundPutEnds o own k read (made s.publish read s.edit 0) result t.publish.latest) still
+          (subst (λ (x : Outcome). SoundPutEnds x own says.last read (made s.publish read s.edit 0) result t.publish.latest) out says.ends);
     }
 
 may_put : (w : World) (place number : ℕ) (id : Id16) (s : copy.State) (read : Latest) → PutsAt w place number id s read → Knows w id s read → MayPut (numbered_names w.names.count) (log_of w.store) s read
@@ -160,21 +151,17 @@ may_put w place number id s read p k = record {
   blocks = k.fits.blocks;
 }
 
-pub put_ends : (w : World) (place number : ℕ) (id : Id16) (s new : copy.State) (read : Latest) (o : Outcome) (planned : List Outcome) (before after : List Entry) (result : PutEnd) → PutsAt w place number id s read
-    → before ≡ log_of w.store → planned ≡ o ∷ [] → PutTold planned before after s result new → PutSays planned before after s result new
-    → HasPut o (log_of w.store) after read (made s.publish read s.edit 0) result new.publish.latest
-put_ends w place number id s new read o planned before after result p same is told says =
+pub put_ends : (w : World) (place number : ℕ) (id : Id16) (s t : copy.State) (read : Latest) (o : Outcome) (old new : StoreShown) (result : PutEnd) → PutsAt w place number id s read
+    → old.log ≡ log_of w.store → old.plan ≡ o ∷ [] → PutSays old new s result t
+    → HasPut o (log_of w.store) new.log read (made s.publish read s.edit 0) result t.publish.latest
+put_ends w place number id s t read o old new result p same is says =
     let mine = numbered_names w.names.count in
     let k = knows w place number id s read p in
-    let of_it : publishing.Puts (Unit {0}) (Unit {0}) planned before after s.publish read s.edit 0 result new.publish =
-    subst (λ (x : Option Latest). MatchOption x ⊥ (λ l. publishing.Puts (Unit {0}) (Unit {0}) planned before after s.publish l s.edit 0 result new.publish)) p.was_read told in
-    let grew : GrewHonestly mine before after =
-    grew_own mine before after (adds_alone before of_it.others after (of_it.by_others.none tt) (adds_of of_it.outcome _ (before ++ of_it.others) after (made s.publish read s.edit 0) result new.publish.latest of_it.ends)) in
-    let sound : MayPut mine before s read → PutsSound (Unit {0}) (Unit {0}) planned mine before after s.publish read s.edit 0 result new.publish =
-    subst (λ (x : Option Latest). MatchOption x ⊥ (λ l. MayPut mine before s l → PutsSound (Unit {0}) (Unit {0}) planned mine before after s.publish l s.edit 0 result new.publish)) p.was_read
-    (says mine (subst (λ (l : List Entry). Sound (history_of l)) (sym same) p.good.fits.sound) grew) in
-    subst (λ (l : List Entry). HasPut o l after read (made s.publish read s.edit 0) result new.publish.latest) same (
-    has_put mine o planned before after s new read result is (ap (λ (l : List Entry). last_of (history_of l)) same ∙ k.last.last)
+    let sound : MayPut mine old.log s read → ManifestPutSound told_here mine old new s.publish read s.edit 0 result t.publish =
+    subst (λ (x : Option Latest). MatchOption x ⊥ (λ l. MayPut mine old.log s l → ManifestPutSound told_here mine old new s.publish l s.edit 0 result t.publish)) p.was_read
+    (says tt mine (subst (λ (l : List Entry). Sound (history_of l)) (sym same) p.good.fits.sound) (inl tt)) in
+    subst (λ (l : List Entry). HasPut o l new.log read (made s.publish read s.edit 0) result t.publish.latest) same (
+    has_put mine o old new s t read result is (ap (λ (l : List Entry). last_of (history_of l)) same ∙ k.last.last)
     (sound (subst (λ (l : List Entry). MayPut mine l s read) (sym same) (may_put w place number id s read p k)))
     )
 
@@ -183,10 +170,20 @@ pub counts_on : (s new : copy.State) (read : Latest) (k : ℕ) → s.publish.lat
 counts_on s new read k was leaves =
     let of_it : putting.PutLeaves 0 s read (put.Published k) new = subst (λ (o : Option Latest). MatchOption o ⊥ (λ l. putting.PutLeaves 0 s l (put.Published k) new)) was leaves in of_it.1.1
 
--- nothing is planned behind it
-pub taken_plan : (o : Outcome) (before after : List Outcome) (result : PutEnd) (Same : Type 0) → before ≡ o ∷ [] → (result ≡ put.NoMemory → ⊥) → (after ≡ rest_of before) ⊎ ((result ≡ put.NoMemory) × Same) → after ≡ []
-taken_plan o before after result Same is other (inl taken) = taken ∙ ap rest_of is
-taken_plan o before after result Same is other (inr none) = absurd (other none.0)
+-- the one planned outcome was taken
+puts_take : (old new : StoreShown) (result : PutEnd) → (result ≡ put.NoMemory → ⊥) → PutTakes told_here old new result → new.plan ≡ rest_of old.plan
+puts_take old new (put.Published n) other taken = taken tt
+puts_take old new put.Refused other taken = taken tt
+puts_take old new (put.Contended numbers) other taken = taken tt
+puts_take old new put.Unknown other taken = taken tt
+puts_take old new put.NoMemory other taken = absurd (other refl)
+
+pub taken_plan : (o : Outcome) (old new : StoreShown) (s t : copy.State) (read : Latest) (result : PutEnd) → s.publish.latest ≡ Some read → old.plan ≡ o ∷ [] → (result ≡ put.NoMemory → ⊥) → PutTold old new s result t
+    → new.plan ≡ []
+taken_plan o old new s t read result was is other told =
+    let puts : ManifestPuts told_here old new s.publish read s.edit 0 result t.publish =
+    subst (λ (x : Option Latest). MatchOption x ⊥ (λ l. ManifestPuts told_here old new s.publish l s.edit 0 result t.publish)) was told in
+    puts_take old new result other puts.taken ∙ ap rest_of is
 
 -- it is never refused
 pub never : (o : Outcome) (log after : List Entry) (read : Latest) (n : Manifest) (result : PutEnd) (kept : Option Latest) → HasPut o log after read n result kept

@@ -9,17 +9,18 @@ use Rattle.bcv_base.specs.declared.outcome.Outcome.{Outcome}
 use Rattle.bcv_base.specs.declared.seen.Latest.{Latest}
 use Rattle.bcv_base.specs.declared.seen.Seen.{Seen}
 use Rattle.bcv_base.specs.Faults.{Rose}
-use Rattle.bcv_base.specs.Numbered.{Counter, numbered, numbered_names}
+use Rattle.bcv_base.specs.Numbered.{Counter, counted, numbered, numbered_names}
 use Rattle.bcv_dbcopy.specs.State as copy
 use Rattle.bcv_dbcopy.specs.State.{IsTask}
-use Rattle.bcv_dbcopy.specs.Working.{DrawsFor, Steps, Takes, WorkLeaves}
+use Rattle.bcv_dbcopy.specs.TaskWork.{DrawsFor, TaskWorks, WorkLeaves, WorkNamesCause, WorkTakes}
 use Rattle.bcv_memstore.specs.declared.mem_store.MemStore.{MemStore}
-use Rattle.bcv_memstore.specs.Told.{log_of, plan_of}
+use Rattle.bcv_memstore.specs.Told.{log_of, plan_of, shown_by, told_here}
 use Rattle.bcv_model.specs.declared.reply.Reply.{Reply}
 use Rattle.bcv_model.specs.declared.reply.Reply.TheVariants as reply
 use Rattle.bcv_publish.specs.declared.work.Work.{Work}
 use Rattle.bcv_publish.specs.declared.work.Work.TheVariants as work
 use Rattle.bcv_store.specs.Plans.{rest_of}
+use Rattle.bcv_store.specs.StoreShown.{StoreShown}
 use Rattle.bcv_world.specs.declared.task.Job.{Job}
 use Rattle.bcv_world.specs.declared.task.Job.TheVariants as job
 use Rattle.bcv_world.specs.declared.task.Task.{Task}
@@ -29,7 +30,7 @@ use Rattle.bcv_world.specs.Moves.{Goes, IsPublication, IsPublish, Runs, plain, r
 use Rattle.bcv_world.specs.Seen.{seen_of}
 use Rattle.bcv_world.specs.Stands.{IsGood}
 use Rattle.bcv_world.proofs.Going.{goes_step}
-use Rattle.bcv_world.proofs.OwnGrowth.{IsStepped, Worked, behind}
+use Rattle.bcv_world.proofs.OwnGrowth.{IsStepped, Worked, behind, planned_store}
 use Rattle.bcv_world.proofs.StepBlock.{block_ends, block_more, rose_none}
 use Rattle.bcv_world.proofs.StepGet.{Ends, get_ends, goes_on}
 
@@ -113,19 +114,19 @@ names_few n k ids e few =
     omega (arith, a, b, d, few)
 
 -- the one planned outcome was taken
-taken_by : (P kept : Type 0) (r : Work) → Takes (Unit {0} → P) kept r → (r ≡ work.NoMemory → ⊥) → (r ≡ work.NamesFault → ⊥) → P
-taken_by P kept work.More takes memory drawn = takes tt
-taken_by P kept work.Nothing takes memory drawn = takes tt
-taken_by P kept (work.Fault f) takes memory drawn = takes tt
-taken_by P kept work.NoContainer takes memory drawn = takes tt
-taken_by P kept (work.BadManifest at) takes memory drawn = takes tt
-taken_by P kept work.Gone takes memory drawn = takes tt
-taken_by P kept (work.BadBlock len) takes memory drawn = takes tt
-taken_by P kept work.NameTaken takes memory drawn = takes tt
-taken_by P kept work.StoreFault takes memory drawn = takes tt
-taken_by P kept work.ClockFault takes memory drawn = takes tt
-taken_by P kept work.NamesFault takes memory drawn = absurd (drawn refl)
-taken_by P kept work.NoMemory takes memory drawn = absurd (memory refl)
+taken_by : (old new : StoreShown) (r : Work) → WorkTakes told_here old new r → (r ≡ work.NoMemory → ⊥) → (r ≡ work.NamesFault → ⊥) → new.plan ≡ rest_of old.plan
+taken_by old new work.More takes memory drawn = takes tt
+taken_by old new work.Nothing takes memory drawn = takes tt
+taken_by old new (work.Fault f) takes memory drawn = takes tt
+taken_by old new work.NoContainer takes memory drawn = takes tt
+taken_by old new (work.BadManifest at) takes memory drawn = takes tt
+taken_by old new work.Gone takes memory drawn = takes tt
+taken_by old new (work.BadBlock len) takes memory drawn = takes tt
+taken_by old new work.NameTaken takes memory drawn = takes tt
+taken_by old new work.StoreFault takes memory drawn = takes tt
+taken_by old new work.ClockFault takes memory drawn = takes tt
+taken_by old new work.NamesFault takes memory drawn = absurd (drawn refl)
+taken_by old new work.NoMemory takes memory drawn = absurd (memory refl)
 
 -- what ends a task
 pub ends_by : (r : Work) → (r ≡ work.More → ⊥) → (r ≡ work.NoMemory → ⊥) → Ends r
@@ -142,18 +143,19 @@ ends_by work.ClockFault more memory = tt
 ends_by work.NamesFault more memory = tt
 ends_by work.NoMemory more memory = absurd (memory refl)
 
-pub worked_of : (w : World) (place number : ℕ) (t : Task) (id : Id16) (s : copy.State) (o : Outcome) (r : Work) (new : copy.State) (store : MemStore) (names : Counter) (planned : List Outcome) (before : List Entry) (seen : Seen) (kept : Type 0)
+pub worked_of : (w : World) (place number : ℕ) (t : Task) (id : Id16) (s : copy.State) (o : Outcome) (r : Work) (new : copy.State) (store : MemStore) (names : Counter) (old : StoreShown) (seen : Seen)
     → IsGood w → w.applied < 2 ^ 62 → Runs (IsPublish false) number (slice_get w.client.tasks.items place) → t ≡ get_or w.client.tasks.items place t → t.job ≡ job.Publish id s → IsTask s → IsKeptOutcome o
-    → planned ≡ o ∷ [] → before ≡ log_of w.store → seen ≡ seen_of w.client.latest → WorkLeaves s.publish.latest seen s r new
-    → Steps (Unit {0}) (Unit {0}) (Unit {0}) planned (Some (numbered_names w.names.count)) (Some (numbered_names names.count)) before (log_of store) seen s r new
-    → Takes (Unit {0} → plan_of store ≡ rest_of planned) kept r → (r ≡ work.NamesFault → Rose w.names.faults names.faults) → (names.count < 2 ^ 128 - 1 → names.faults ≡ 0) → (r ≡ work.NoMemory → ⊥)
+    → old.plan ≡ o ∷ [] → old.log ≡ log_of w.store → seen ≡ seen_of w.client.latest → WorkLeaves s.publish.latest seen s r new
+    → TaskWorks told_here old (shown_by store) (counted w.names) (counted names) seen s r new
+    → (names.count < 2 ^ 128 - 1 → names.faults ≡ 0) → (r ≡ work.NoMemory → ⊥)
     → Worked w place number id s o r new store names
-worked_of w place number t id s o r new store names planned before seen kept good few runs is does task outcome plan log known leaves steps takes failed never memory =
+worked_of w place number t id s o r new store names old seen good few runs is does task outcome plan log known leaves steps never memory =
     let at = at_place (IsPublish false) w.client.tasks.items place number t runs is in
     let same : t ≡ record { number = number; job = job.Publish id s } = task_is t number id s at.1 does in
-    let some : names.count ≤ w.names.count + 1 = names_few w.names.count names.count steps.ids steps.drawn (draws_few s.publish.latest s r new steps.ids steps.names) in
+    let some : names.count ≤ w.names.count + 1 = names_few w.names.count names.count steps.ids steps.drawn (draws_few s.publish.latest s r new steps.ids steps.draws) in
     let faults : names.faults ≡ 0 = never (omega (arith, some, few, good.few_names)) in
-    let taken : plan_of store ≡ rest_of planned = taken_by (plan_of store ≡ rest_of planned) kept r takes memory (λ e. rose_none w.names.faults names.faults good.names faults (failed e)) in
+    let failed : r ≡ work.NamesFault → Rose w.names.faults names.faults = λ e. (subst (WorkNamesCause w.names.faults names.faults) e steps.names_failed).1 in
+    let taken : plan_of store ≡ rest_of old.plan = taken_by old (shown_by store) r steps.taken memory (λ e. rose_none w.names.faults names.faults good.names faults (failed e)) in
     record {
       good = good;
       few = few;
@@ -162,10 +164,11 @@ worked_of w place number t id s o r new store names planned before seen kept goo
       ready = subst (IsPublish false) does at.2;
       outcome = outcome;
       leaves = subst (λ (x : Seen). WorkLeaves s.publish.latest x s r new) known leaves;
+      store_faults = old.faults;
       steps =
-          subst (λ (x : Seen). Steps (Unit {0}) (Unit {0}) (Unit {0}) (o ∷ []) (Some (numbered_names w.names.count)) (Some (numbered_names names.count)) (log_of w.store) (log_of store) x s r new) known
-          (subst (λ (x : List Entry). Steps (Unit {0}) (Unit {0}) (Unit {0}) (o ∷ []) (Some (numbered_names w.names.count)) (Some (numbered_names names.count)) x (log_of store) seen s r new) log
-          (subst (λ (x : List Outcome). Steps (Unit {0}) (Unit {0}) (Unit {0}) x (Some (numbered_names w.names.count)) (Some (numbered_names names.count)) before (log_of store) seen s r new) plan steps));
+          subst (λ (x : Seen). TaskWorks told_here (planned_store w o old.faults) (shown_by store) (counted w.names) (counted names) x s r new) known
+          (subst (λ (x : List Entry). TaskWorks told_here (record { log = x; plan = o ∷ []; faults = old.faults }) (shown_by store) (counted w.names) (counted names) seen s r new) log
+          (subst (λ (x : List Outcome). TaskWorks told_here (record { log = old.log; plan = x; faults = old.faults }) (shown_by store) (counted w.names) (counted names) seen s r new) plan steps));
       plan = taken ∙ ap rest_of plan;
       faults = faults;
       failed = failed;

@@ -13,7 +13,7 @@ use Rattle.bcv_base.specs.ManifestRules.{blocks_needed, writer_id}
 use Rattle.bcv_base.specs.Numbered.{numbered, numbered_names}
 use Rattle.bcv_base.specs.Versions.{HasVersions}
 use Rattle.bcv_dbcopy.specs.State as copy
-use Rattle.bcv_dbcopy.specs.Working.{OwnsBlocks}
+use Rattle.bcv_dbcopy.specs.TaskWork.{OwnsBlocks}
 use Rattle.bcv_dbmap.specs.declared.plan.EditPlan.{EditPlan}
 use Rattle.bcv_dbmap.specs.declared.plan.EditPlan.TheVariants as edit
 use Rattle.bcv_dbmap.specs.Past.{has_version, was_deleted}
@@ -22,7 +22,7 @@ use Rattle.bcv_memstore.specs.Told.{log_of, plan_of}
 use Rattle.bcv_model.specs.declared.spec.WorldSpec.{WorldSpec}
 use Rattle.bcv_model.specs.Machine.{History, Accepts, drawn}
 use Rattle.bcv_model.specs.MachineState.{State, has_number}
-use Rattle.bcv_publish.specs.Getting.{IsKept}
+use Rattle.bcv_dbmap.specs.Kept.{IsKept}
 use Rattle.bcv_world.specs.declared.client.Client.{Client}
 use Rattle.bcv_world.specs.declared.task.Job.{Job}
 use Rattle.bcv_world.specs.declared.task.Job.TheVariants as job

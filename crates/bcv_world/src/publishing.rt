@@ -10,9 +10,9 @@ use crate::replies::{plain, published, reply_of};
 use crate::task::{Job, Task};
 use crate::world::World;
 use bcv_base::{Id16, Outcome};
-use bcv_dbcopy::{CopyTask, Created, create};
+use bcv_dbcopy::CopyTask;
 use bcv_model::{Reply, Said};
-use bcv_publish::{PutEnd, Work};
+use bcv_publish::{Created, PutEnd, Work, create};
 use std::alloc::{AllocError, Global};
 
 // The clock stands still as long as no line moves it.

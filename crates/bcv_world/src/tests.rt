@@ -2,10 +2,9 @@ ghost use Rattle.std.specs.Prelude.{◌<◌, ℕ, length};
 ghost use Rattle.bcv_dbmap.specs.Applied.{FitsPlan};
 
 use bcv_base::{Id16, Seen, Seq};
-use bcv_dbcopy::{Created, create};
 use bcv_dbmap::EditPlan;
 use bcv_memstore::MemStore;
-use bcv_publish::{Publish, PutEnd, Work};
+use bcv_publish::{Created, Publish, PutEnd, Work, create};
 use std::alloc::Global;
 use std::test::*;
 

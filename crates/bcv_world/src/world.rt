@@ -1,4 +1,4 @@
-ghost use Rattle.std.specs.Prelude.{◌≡◌, ◌^◌, ◌<◌, true, IfOk, OnOk};
+ghost use Rattle.std.specs.Prelude.{◌≡◌, ◌^◌, ◌<◌, [], true, IfOk, OnOk};
 ghost use Rattle.bcv_base.specs.declared.outcome.Outcome.{Outcome};
 ghost use Rattle.bcv_model.specs.declared.event.Event.TheVariants as event;
 ghost use Rattle.bcv_model.specs.declared.event.Act.TheVariants as act;
@@ -28,12 +28,15 @@ pub struct World {
 }
 
 impl World {
-    /// A world in its first state: an empty store, and a client that knows nothing and has the first name.
+    ghost use Rattle.bcv_memstore.specs.Told.{log_of};
+
+    /// Makes a world in its first state: an empty store, and a client that knows nothing and has the first name.
     pub fn new(alloc: Global, spec: &WorldSpec) -> World
         requires world { is_world spec.now ≡ true }
         requires sizes { IsSpec spec.now }
         ensures spec { result.spec ≡ spec.now }
         ensures applied { result.applied ≡ 0 }
+        ensures log { log_of result.store ≡ [] }
         ensures good { IsGood result }
         ensures stands { Mirrors result no_history (first_state spec.now.clients spec.now.slots) }
     {

@@ -1,9 +1,12 @@
 -- The exit status of each fault, and the fault that a status stands for.
-use Rattle.std.specs.Prelude.{ℕ, Result, Ok, Err}
+use Rattle.std.specs.Prelude.{ℕ, Bool, true, false, List, Option, Some, None, Result, Ok, Err, codes, if◌then◌else◌}
+use Rattle.std.specs.Str.{bytes_eq}
 use Rattle.bcv_top.specs.declared.status.Status.{Status}
 use Rattle.bcv_top.specs.declared.status.Status.TheVariants as status
 use Rattle.bcvutil.specs.declared.fault.Fault.{Fault}
 use Rattle.bcvutil.specs.declared.fault.Fault.TheVariants as fault
+use Rattle.bcvutil.specs.declared.fault.Folder.{Folder}
+use Rattle.bcvutil.specs.declared.fault.Folder.TheVariants as folder
 
 abbrev pub fault_code : Fault → ℕ
 fault_code (fault.Store word) = 7
@@ -24,3 +27,16 @@ fault_of status.ReadFault = Err fault.ReadFault
 fault_of status.WriteFault = Err fault.WriteFault
 fault_of status.NoMemory = Err fault.NoMemory
 fault_of status.TooLong = Err fault.TooLong
+
+-- the fault of a command that ended at a status: a write fault where its output was not flushed
+abbrev pub ended_as : Bool → Status → Result (Unit {0}) Fault
+ended_as true s = fault_of s
+ended_as false s = Err fault.WriteFault
+
+-- the word is that of a folder in memory
+abbrev pub is_memory : List ℕ → Bool
+is_memory word = bytes_eq word (codes "-")
+
+-- the first of the words STORE and CLIENT that cannot be used
+abbrev pub unusable_of : List ℕ → List ℕ → Option Folder
+unusable_of store client = if is_memory store then (if is_memory client then None else Some folder.Client) else Some folder.Store

@@ -1,7 +1,7 @@
 ghost use Rattle.std.specs.Prelude.{◌≡◌, MatchResult};
 ghost use Rattle.bcv_top.specs.Codes.{code_of};
 ghost use Rattle.bcv_top.specs.declared.status.Status.TheVariants.{Done};
-ghost use Rattle.bcvutil.specs.Faults.{fault_code, fault_of};
+ghost use Rattle.bcvutil.specs.Faults.{ended_as, fault_code, fault_of, unusable_of};
 
 use bcv_top::Status;
 use thiserror::Error;
@@ -58,5 +58,34 @@ pub fn of(status: Status) -> Result<(), Fault>
         Status::WriteFault => Err(Fault::WriteFault),
         Status::NoMemory => Err(Fault::NoMemory),
         Status::TooLong => Err(Fault::TooLong),
+    }
+}
+
+/// The fault of a command that ended at a status: a write fault where its output could not be flushed.
+pub fn ended(status: Status, flushed: bool) -> Result<(), Fault>
+    ensures { result ≡ ended_as flushed status }
+{
+    if flushed {
+        of(status)
+    } else {
+        Err(Fault::WriteFault)
+    }
+}
+
+/// A word that names a folder.
+#[derive(Clone, Copy, Debug, PartialEq, Eq)]
+pub enum Folder {
+    Store,
+    Client,
+}
+
+/// The first of the words STORE and CLIENT that cannot be used: for now each of them is `-`.
+pub fn unusable(store: &[u8], client: &[u8]) -> Option<Folder>
+    ensures { result ≡ unusable_of store.now client.now }
+{
+    match (store == b"-".as_slice(), client == b"-".as_slice()) {
+        (false, _) => Some(Folder::Store),
+        (true, false) => Some(Folder::Client),
+        (true, true) => None,
     }
 }

@@ -9,14 +9,43 @@ mod fault;
 
 use bcv_base::{StdSink, StdSource};
 use bcv_top::{Status, bcv_top};
-use fault::Fault;
+use fault::{Fault, Folder};
 use std::env;
 use std::io::{self, ErrorKind, Write};
 use std::process::ExitCode;
 
-const HELP: &str = "usage: bcvutil STORE CLIENT replay
-STORE and CLIENT are `-`, an empty store and an empty client in memory.
-replay reads a script from standard input and writes a reply line for each event to standard output.
+const HELP: &str = "usage: bcvutil STORE CLIENT replay < SCRIPT
+
+Replays a script over an empty store and one client in memory: reads the script from standard
+input and writes one reply line for each event to standard output. STORE and CLIENT are `-`.
+`bcvutil --help` prints this text, `bcvutil --version` the version.
+
+The first line of a script:
+  world 1 BLOCK PAGE RETENTION SLOTS
+    one client; the sizes of blocks and pages in bytes, powers of two from 512; how long a dead
+    block is kept, in seconds; the slots of a cache
+Each further line is an event of client 1, with its reply:
+  1 create          makes the container         task T working 1
+  1 new DB TEXT ..  publishes a database;       task T working N
+                    TEXT is a page: - for zeros, or hex digits for its first bytes
+  1 copy DB NEW     shares all of its blocks    task T working 2
+  1 drop DB         removes its name            task T working 2
+  1 step T          one request of a task       working N, +K done K, page TEXT, or why it ended
+  1 step T fail     a request that fails        store-fault, or unknown ID at a manifest's put
+  1 begin DB        begins a transaction        txn X
+  1 read X PAGE     reads a page in it          task T working 1
+`+K` says that version K was published. An event that is refused answers why in one word:
+  no-database no-txn no-task bad-page too-many busy pending no-container exists page-too-large
+  too-large too-many-databases delete-list-full manifest-too-long store-fault
+Numbers are decimal; words are parted by one space; DB has letters, digits, '.', '_' and '-'.
+
+Exit status: 0 each line was applied; 2 bad words; 3 bad line (its number is on standard error);
+4 and 5 a failed read and write; 6 out of memory; 7 and 8 a STORE or CLIENT that cannot be used;
+13 a line or script that is too long.
+
+Example, a page published and read:
+  printf '%s\\n' 'world 1 1024 512 100 2' '1 create' '1 step 1' '1 new a aa' '1 step 1' \\
+    '1 step 1' '1 step 1' '1 begin a' '1 read 1 1' '1 step 1' | bcvutil - - replay
 ";
 
 const VERSION: &str = "bcvutil 0.1.0\n";
@@ -48,15 +77,11 @@ fn run(rt: &HostRuntime, words: &[String]) -> Result<(), Fault> {
     match words {
         [_, word] if word.as_str() == "--help" => print(rt, HELP),
         [_, word] if word.as_str() == "--version" => print(rt, VERSION),
-        [_, store, client, _, ..] => {
-            if store.as_str() != "-" {
-                return Err(Fault::Store(copied(store)?));
-            }
-            if client.as_str() != "-" {
-                return Err(Fault::Client(copied(client)?));
-            }
-            command(rt, &words[3..])
-        }
+        [_, store, client, _, ..] => match fault::unusable(store.as_bytes(), client.as_bytes()) {
+            Some(Folder::Store) => Err(Fault::Store(copied(store)?)),
+            Some(Folder::Client) => Err(Fault::Client(copied(client)?)),
+            None => command(rt, &words[3..]),
+        },
         _ => command(rt, &[]),
     }
 }
@@ -66,10 +91,8 @@ fn command(rt: &HostRuntime, words: &[String]) -> Result<(), Fault> {
     let mut input = StdSource::new(rt.reader());
     let mut output = StdSink::new(io::writer(rt));
     let status = bcv_top(rt.alloc(), words, &mut input, &mut output);
-    if output.inner.flush().is_err() {
-        return Err(Fault::WriteFault);
-    }
-    fault::of(status)
+    let flushed = output.inner.flush().is_ok();
+    fault::ended(status, flushed)
 }
 
 fn print(rt: &HostRuntime, text: &str) -> Result<(), Fault> {

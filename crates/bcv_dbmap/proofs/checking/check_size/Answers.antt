@@ -13,11 +13,11 @@ use Rattle.bcv_dbmap.specs.Merged.{leaving}
 use Rattle.bcv_dbmap.proofs.Counts.{none_from_ok, not_larger, few_dead_after, few_leaving}
 use Rattle.bcv_dbmap.proofs.checking.check_size.Goals as goal
 
-pub returns-then-line_count-gt-MOST_WRITERS : goal.returns-then-line_count-gt-MOST_WRITERS
-returns-then-line_count-gt-MOST_WRITERS c =
+pub returns-then-line_count : goal.returns-then-line_count
+returns-then-line_count c =
     let m = c.args.m.now in
     let p = c.args.plan.now in
-    let full = sym (c.line_count.ensures.full ∙ ap (λ (ws : List Writer). is_none (keyed writer_id c.args.writer.now.0 ws) && nat_le 4096 (length ws)) c.items.ensures) ∙ lt-ltb 4096 c.line_count.result c.if-line_count-gt-MOST_WRITERS.true in
+    let full = sym (c.line_count.ensures.full ∙ ap (λ (ws : List Writer). is_none (keyed writer_id c.args.writer.now.0 ws) && nat_le 4096 (length ws)) c.items.ensures) ∙ lt-ltb 4096 c.line_count.result c.if-line_count.true in
     let bytes = 64 + 40 * length (applied m p zero_id c.args.writer.now 0).writers + needed_total m.block (applied m p zero_id c.args.writer.now 0).dbs in
     ap (λ (b : Bool). cond b (Some fault.WritersFull) (too_large bytes (dead_length m p))) full
 
@@ -34,19 +34,19 @@ pub returns-then-is_ok : goal.returns-then-is_ok
 returns-then-is_ok c =
     let m = c.args.m.now in
     let p = c.args.plan.now in
-    let full = sym (c.line_count.ensures.full ∙ ap (λ (ws : List Writer). is_none (keyed writer_id c.args.writer.now.0 ws) && nat_le 4096 (length ws)) c.items.ensures) ∙ le-ltb 4096 c.line_count.result c.if-line_count-gt-MOST_WRITERS.false in
+    let full = sym (c.line_count.ensures.full ∙ ap (λ (ws : List Writer). is_none (keyed writer_id c.args.writer.now.0 ws) && nat_le 4096 (length ws)) c.items.ensures) ∙ le-ltb 4096 c.line_count.result c.if-line_count.false in
     let bytes = 64 + 40 * length (applied m p zero_id c.args.writer.now 0).writers + needed_total m.block (applied m p zero_id c.args.writer.now 0).dbs in
-    let most : too_large c.bytes_beside-bytes.result c.most_dead.result ≡ None =
-    none_from_ok c.check_lengths.result (too_large c.bytes_beside-bytes.result c.most_dead.result) c.check_lengths.ensures (sym c.is_ok.ensures.value ∙ c.if-is_ok.true) in
+    let most : too_large c.bytes_beside-bytes.result c.dead_bound.result ≡ None =
+    none_from_ok c.check_lengths.result (too_large c.bytes_beside-bytes.result c.dead_bound.result) c.check_lengths.ensures (sym c.is_ok.ensures.value ∙ c.if-is_ok.true) in
     ap (λ (b : Bool). cond b (Some fault.WritersFull) (too_large bytes (dead_length m p))) full
     ∙ not_larger bytes (length m.dead + length (leaving p m.dbs)) (dead_length m p) (few_dead_after m p c.requires.rules c.requires.passes)
-    (sym (ap₂ too_large c.bytes_beside-bytes.ensures.value c.most_dead.ensures.value) ∙ most)
+    (sym (ap₂ too_large c.bytes_beside-bytes.ensures.value c.dead_bound.ensures.value) ∙ most)
 
 pub returns : goal.returns
 returns c =
     let m = c.args.m.now in
     let p = c.args.plan.now in
-    let full = sym (c.line_count.ensures.full ∙ ap (λ (ws : List Writer). is_none (keyed writer_id c.args.writer.now.0 ws) && nat_le 4096 (length ws)) c.items.ensures) ∙ le-ltb 4096 c.line_count.result c.if-line_count-gt-MOST_WRITERS.false in
+    let full = sym (c.line_count.ensures.full ∙ ap (λ (ws : List Writer). is_none (keyed writer_id c.args.writer.now.0 ws) && nat_le 4096 (length ws)) c.items.ensures) ∙ le-ltb 4096 c.line_count.result c.if-line_count.false in
     let bytes = 64 + 40 * length (applied m p zero_id c.args.writer.now 0).writers + needed_total m.block (applied m p zero_id c.args.writer.now 0).dbs in
     let whole : too_large c.bytes_beside-bytes.result c.dead_count.result ≡ size_fault m p c.args.writer.now =
     ap₂ too_large c.bytes_beside-bytes.ensures.value c.dead_count.ensures ∙ sym (ap (λ (b : Bool). cond b (Some fault.WritersFull) (too_large bytes (dead_length m p))) full) in

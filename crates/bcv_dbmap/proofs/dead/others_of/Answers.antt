@@ -3,9 +3,13 @@ use Rattle.std.specs.Prelude.{not}
 use Rattle.std.proofs.lemmas.Bool.{not_from_true, not_from_false}
 use Rattle.bcv_base.specs.declared.manifest.Dead.{Dead}
 use Rattle.bcv_base.specs.Ids.{has_id}
+use Rattle.bcv_dbmap.proofs.Chosen.{sorted_ids}
 use Rattle.bcv_dbmap.proofs.Filtered.{keeps, skips}
 use Rattle.bcv_dbmap.proofs.dead.others_of.Goals.{then-not-is_one_of+in_ok-push, else-not-is_one_of}
 use Rattle.bcv_dbmap.proofs.dead.others_of.Goals as goal
+
+pub is_one_of-requires : goal.is_one_of-requires
+is_one_of-requires c = sorted_ids c.args.ids.now c.requires
 
 -- what stands past the end of a delete list
 abbrev no_dead : Dead

@@ -2,7 +2,7 @@ use Rattle.std.proofs.Common.{rules, ◌∙◌}
 use Rattle.std.proofs.lemmas.List.Sorted.{answers_always}
 use Rattle.bcv_base.specs.declared.manifest.Dead.{Dead}
 use Rattle.bcv_manifest.proofs.Marked.{is_dead_found}
-use Rattle.bcv_manifest.proofs.Searched.{searched}
+use Rattle.bcv_base.proofs.Searched.{searched}
 use Rattle.bcv_manifest.proofs.blocks.has_dead.Goals as goal
 
 -- the closure gives a dead block's id

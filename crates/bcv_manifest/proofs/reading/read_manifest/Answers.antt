@@ -18,4 +18,4 @@ pub returns-clause-found : goal.returns-clause-found
 returns-clause-found c = is_found c.args.bytes.now c.answer.result (λ i. omega (arith, c.type_inv.bytes i)) c.answer.ensures
 
 pub returns-clause-only : goal.returns-clause-only
-returns-clause-only c = λ m rules limits e. subst (λ (f : Result Manifest ℕ). Answers (λ x. x) c.answer.result f) (ap manifest_of e ∙ manifest_only m rules limits) c.answer.ensures
+returns-clause-only c = λ m rules limits fits e. subst (λ (f : Result Manifest ℕ). Answers (λ x. x) c.answer.result f) (ap manifest_of e ∙ manifest_only m rules limits fits) c.answer.ensures

@@ -7,8 +7,8 @@ use Rattle.bcv_memstore.proofs.tests.replace.Goals as goal
 
 pub returns-in-Found-clause-replaces : goal.returns-in-Found-clause-replaces
 returns-in-Found-clause-replaces g c told alone =
-    replaced _ _ _ _ _ _ _ _ _ alone (ap (λ (x : Option Object). holds (cond.Match c.in-Found.etag) x) (c.in-Found.ensures.told told).answers.1 ∙ eq-eqb c.in-Found.etag c.in-Found.etag refl) (c.put.ensures.told told)
+    replaced _ _ _ _ _ _ _ alone (ap (λ (x : Option Object). holds (cond.Match c.in-Found.etag) x) (c.in-Found.ensures.gets.told told).answers.1 ∙ eq-eqb c.in-Found.etag c.in-Found.etag refl) (c.put.ensures.puts.told told)
 
 pub returns-in-Missing-clause-replaces : goal.returns-in-Missing-clause-replaces
 returns-in-Missing-clause-replaces g c told alone =
-    replaced _ _ _ _ _ _ _ _ _ alone (ap (λ (x : Option Object). holds cond.Absent x) (c.in-Missing.ensures.told told).answers.1) (c.put-in-Missing.ensures.told told)
+    replaced _ _ _ _ _ _ _ alone (ap (λ (x : Option Object). holds cond.Absent x) (c.in-Missing.ensures.gets.told told).answers.1) (c.put-in-Missing.ensures.puts.told told)

@@ -17,6 +17,7 @@ returns-in-Err-clause-replays g c =
 pub lines-init : goal.lines-init
 lines-init g c = record {
   played = played_none (g.I.Source.left c.args.input.now) (g.O.Sink.given c.args.out.now) c.in-Ok.reader.chunk c.in-Ok.reader.used c.in-Ok.ensures.0 c.in-Ok.ensures.1;
+  unended = c.requires.unended;
   input_later = omega arith;
   output_later = omega arith;
 }
@@ -88,6 +89,7 @@ lines-preserved g c =
       played = goes_on (g.I.Source.left c.args.input.now) (g.I.Source.left c.lines.input) (g.O.Sink.given c.args.out.now) (g.O.Sink.given c.lines.out) c.lines.world c.lines.number c.lines.reader.used c.lines.reader.chunk c.lines.invariant.played
           (g.I.Source.left c.next.new.input) r.0 r.1
           (g.O.Sink.given c.say.new.out) c.as_slice-line.result.now c.next.new.self.chunk w.0 c.say.new.world (c.lines.number + 1) c.next.new.self.used l.0 l.1 refl counts w.1 w.2;
+      unended = c.in-Line.ensures.goes_on refl;
       input_later = omega (arith, c.lines.invariant.input_later, c.in-Line.ensures.later);
       output_later = omega (arith, c.lines.invariant.output_later, c.say.ensures.later);
     }

@@ -1,12 +1,11 @@
--- A read that was cut short takes nothing, and is counted.
-use Rattle.std.proofs.Common.{◌<◌, ◌≤◌}
+-- A read that was cut short takes nothing.
+use Rattle.std.proofs.Common.{◌≡◌}
 use Rattle.std.specs.Io.KnownBytes.{Keeps}
-use Rattle.bcv_base.specs.Faults.{Rose}
 use Rattle.bcv_base.proofs.std_source.StdSourceSource.take.Given as goal
 
 abbrev pub invariant-loop : goal.invariant-loop
 invariant-loop g l = record {
   kept : Keeps (g.R.Read.remaining l.initial.self.inner) (g.R.Read.remaining l.self.inner);
-  later : l.initial.self.faults ≤ l.self.faults;
-  risen : 0 < l.counter → Rose l.initial.self.faults l.self.faults;
+  unended : l.self.ended ≡ l.initial.self.ended;
+  faults : l.self.faults ≡ l.initial.self.faults;
 }

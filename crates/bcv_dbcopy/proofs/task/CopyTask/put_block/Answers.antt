@@ -1,10 +1,12 @@
 use Rattle.std.proofs.Common.{◌≡◌, false, List, is_none, sym, subst, length}
 use Rattle.bcv_base.specs.Image.{Page}
 use Rattle.bcv_dbmap.specs.declared.plan.EditPlan.TheVariants as edit
+use Rattle.bcv_publish.specs.declared.work.Work.{Work}
+use Rattle.bcv_publish.specs.BlockPut.{BlockPuts, block_work}
 use Rattle.bcv_dbcopy.specs.declared.task.CopyTask.TheInside.{Inside}
 use Rattle.bcv_dbcopy.specs.State.{State, block_text, is_ready}
-use Rattle.bcv_dbcopy.specs.Working.{Steps, PutsNamed}
-use Rattle.bcv_dbcopy.proofs.Stepping.{block_steps}
+use Rattle.bcv_dbcopy.specs.TaskWork.{TaskWorks}
+use Rattle.bcv_dbcopy.proofs.WorkLaws.{block_works}
 use Rattle.bcv_dbcopy.proofs.Tasks.{task_more, under_way, passed_of, kept_some, new_sized}
 use Rattle.bcv_dbcopy.proofs.task.CopyTask.put_block.Goals as goal
 
@@ -16,19 +18,24 @@ invariant_of-self g c =
     let running : c.self.inside.published ≡ false = subst (λ (s : State). s.published ≡ false) (sym c.self.view_is) c.requires.running in
     let kept = kept_some c.self.inside.publish.latest (subst (λ (s : State). is_none s.publish.latest ≡ false) (sym c.self.view_is) c.requires.kept) in
     let not_ready : is_ready (viewed c.self.inside) ≡ false = subst (λ (s : State). is_ready s ≡ false) (sym c.self.view_is) c.requires.not_ready in
-    task_more (viewed c.self.inside) c.in-New.entry c.put_next.new.entry kept.0 c.in-Some.block c.put_next.ensures.puts.ids c.put_next.result c.self.invariant running not_ready c.in-New.is kept.1 c.in-Some.is
+    task_more (viewed c.self.inside) c.in-New.entry c.put_next.new.entry kept.0 c.in-Some.block c.put_next.ensures.puts.drawn c.put_next.result c.self.invariant running not_ready c.in-New.is kept.1 c.in-Some.is
     c.put_next.ensures.rest c.put_next.ensures.puts.leaves c.put_next.ensures.ids
 
-pub returns-clause-steps : goal.returns-clause-steps
-returns-clause-steps g c =
+pub returns-clause-task : goal.returns-clause-task
+returns-clause-task g c = invariant_of-self g c
+
+pub returns-clause-works : goal.returns-clause-works
+returns-clause-works g c =
     let running : c.self.inside.published ≡ false = subst (λ (s : State). s.published ≡ false) (sym c.self.view_is) c.requires.running in
     let kept = kept_some c.self.inside.publish.latest (subst (λ (s : State). is_none s.publish.latest ≡ false) (sym c.self.view_is) c.requires.kept) in
     let under = under_way (viewed c.self.inside) c.in-Some.block c.self.invariant running c.in-Some.is in
-    let puts = subst (λ (pages : List Page). PutsNamed g.S.Store.tells g.S.Store.alone g.S.Store.plans (g.S.Store.plan c.args.store.now) (g.N.Names.drawn c.args.names.now) (g.N.Names.drawn c.put_next.new.names)
-    (g.S.Store.log c.args.store.now) (g.S.Store.log c.put_next.new.store) (block_text c.in-Some.block c.in-New.entry.page_size pages (length c.in-New.entry.blocks)) c.in-New.entry.blocks c.put_next.result c.put_next.new.entry.blocks)
+    let puts = subst (λ (pages : List Page). BlockPuts g.S.Store.told (g.S.Store.shown c.args.store.now) (g.S.Store.shown c.put_next.new.store) (g.N.Names.shown c.args.names.now) (g.N.Names.shown c.put_next.new.names)
+    (block_text c.in-Some.block c.in-New.entry.page_size pages (length c.in-New.entry.blocks)) c.in-New.entry.blocks c.put_next.result c.put_next.new.entry.blocks)
     c.items.ensures c.put_next.ensures.puts in
-    λ seen. subst (λ (s : State). Steps g.S.Store.tells g.S.Store.alone g.S.Store.plans (g.S.Store.plan c.args.store.now) (g.N.Names.drawn c.args.names.now) (g.N.Names.drawn c.put_next.new.names)
-    (g.S.Store.log c.args.store.now) (g.S.Store.log c.put_next.new.store) seen s c.put_next.result (record (viewed c.self.inside) { edit = edit.New c.put_next.new.entry })) c.self.view_is
-    (block_steps g.S.Store.tells g.S.Store.alone g.S.Store.plans (g.S.Store.plan c.args.store.now) (g.N.Names.drawn c.args.names.now) (g.N.Names.drawn c.put_next.new.names) (g.S.Store.log c.args.store.now)
-    (g.S.Store.log c.put_next.new.store) seen (viewed c.self.inside) c.in-New.entry kept.0 c.in-Some.block c.put_next.result c.put_next.new.entry c.in-New.is kept.1 c.in-Some.is
-    (passed_of (viewed c.self.inside) kept.0 c.in-Some.block under kept.1).block (new_sized (viewed c.self.inside) c.in-New.entry c.self.invariant c.in-New.is) c.put_next.ensures.rest puts)
+    λ seen. subst (λ (w : Work). TaskWorks g.S.Store.told (g.S.Store.shown c.args.store.now) (g.S.Store.shown c.put_next.new.store) (g.N.Names.shown c.args.names.now) (g.N.Names.shown c.put_next.new.names)
+    seen c.args.self.now w (record (viewed c.self.inside) { edit = edit.New c.put_next.new.entry })) (sym c.work.ensures)
+    (subst (λ (s : State). TaskWorks g.S.Store.told (g.S.Store.shown c.args.store.now) (g.S.Store.shown c.put_next.new.store) (g.N.Names.shown c.args.names.now) (g.N.Names.shown c.put_next.new.names)
+    seen s (block_work c.put_next.result) (record (viewed c.self.inside) { edit = edit.New c.put_next.new.entry })) c.self.view_is
+    (block_works g.S.Store.told (g.S.Store.shown c.args.store.now) (g.S.Store.shown c.put_next.new.store) (g.N.Names.shown c.args.names.now) (g.N.Names.shown c.put_next.new.names)
+    seen (viewed c.self.inside) c.in-New.entry kept.0 c.in-Some.block c.put_next.result c.put_next.new.entry c.in-New.is kept.1 c.in-Some.is
+    (passed_of (viewed c.self.inside) kept.0 c.in-Some.block under kept.1).block (new_sized (viewed c.self.inside) c.in-New.entry c.self.invariant c.in-New.is) c.put_next.ensures.rest puts))

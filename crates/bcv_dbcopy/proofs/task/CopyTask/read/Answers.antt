@@ -2,7 +2,7 @@ use Rattle.std.proofs.Common.{◌≡◌, ◌∙◌, ℕ, true, false, Option, No
 use Rattle.bcv_base.specs.declared.seen.Latest.{Latest}
 use Rattle.bcv_dbcopy.specs.declared.task.CopyTask.TheInside.{Inside}
 use Rattle.bcv_dbcopy.specs.State.{State, IsTask}
-use Rattle.bcv_dbcopy.specs.Working.{WorkLeaves, block_known}
+use Rattle.bcv_dbcopy.specs.TaskWork.{WorkLeaves, block_known}
 use Rattle.bcv_dbcopy.proofs.Tasks.{task_read, none_kept}
 use Rattle.bcv_dbcopy.proofs.task.CopyTask.read.Goals as goal
 
@@ -16,6 +16,9 @@ invariant_of-self g c =
     let running : c.self.inside.published ≡ false = subst (λ (s : State). s.published ≡ false) (sym c.self.view_is) c.requires.running in
     subst (λ (b : Option ℕ). IsTask (record { edit = c.self.inside.edit; pages = c.self.inside.pages; publish = c.get-work.new.self; block = b; published = c.self.inside.published })) (sym known)
     (task_read c.args.seen.now (viewed c.self.inside) c.get-work.result c.get-work.new.self c.self.invariant running none c.get-work.ensures.leaves)
+
+pub returns-clause-task : goal.returns-clause-task
+returns-clause-task g c = invariant_of-self g c
 
 pub returns-clause-leaves : goal.returns-clause-leaves
 returns-clause-leaves g c =

@@ -11,5 +11,6 @@ loop-self-preserved g c =
           inv.took c.in-Part.ensures.bytes.0 c.in-Some.ensures.bytes.1;
       front = subst (λ (u : ℕ). FitsFront u c.gather.new.self.line.items) (sym c.in-Part.ensures.counts) c.in-Part.ensures.bytes.2;
       used = c.in-Part.ensures.counts ∙ inv.used;
+      unended = c.in-Some.ensures.ends;
       later = omega (arith, inv.later, c.in-Some.ensures.cause);
     }

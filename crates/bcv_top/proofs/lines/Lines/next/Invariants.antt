@@ -1,4 +1,4 @@
-use Rattle.std.proofs.Common.{◌≡◌, ◌≤◌, ◌+◌, ◌-◌, length}
+use Rattle.std.proofs.Common.{◌≡◌, false, ◌≤◌, ◌+◌, ◌-◌, length}
 use Rattle.bcv_top.specs.Reading.{FitsFront}
 use Rattle.bcv_top.proofs.Reader.{Took}
 use Rattle.bcv_top.proofs.lines.Lines.next.Given as goal
@@ -8,6 +8,7 @@ invariant-loop-self g l = record {
   took : Took (g.I.Source.left l.initial.input) (g.I.Source.left l.input) l.initial.self.chunk l.self.line.items l.self.chunk;
   front : FitsFront l.self.used l.self.line.items;
   used : l.self.used ≡ l.initial.self.used;
+  unended : g.I.Source.ended l.input ≡ false;
   later : g.I.Source.faults l.initial.input ≤ g.I.Source.faults l.input;
 }
 

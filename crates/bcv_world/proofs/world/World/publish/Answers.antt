@@ -21,7 +21,7 @@ new_starts old new p writer i id s left r same made started =
 pub returns-clause-good : goal.returns-clause-good
 returns-clause-good c =
     let w = c.args.self.now in
-    let started = new_starts w.client c.start.new.self c.args.plan w.client.id (numbered (w.names.count + 1)) c.drawn-id.result c.new-task.result c.left-left.result c.in_ok-start.field-0 c.drawn-id.ensures.id c.new-task.ensures c.in_ok-start.ensures in
+    let started = new_starts w.client c.start.new.self c.args.plan w.client.id (numbered (w.names.count + 1)) c.drawn-id.result c.new-task.result c.left-left.result c.in_ok-start.field-0 c.drawn-id.ensures.id c.new-task.ensures.task c.in_ok-start.ensures in
     subst (λ (names : Counter). IsGood (record w { names = names; client = c.start.new.self; applied = w.applied + 1 })) (sym c.drawn-id.ensures.names)
     (publish_good w c.start.new.self c.args.plan c.left-left.result c.in_ok-start.field-0 c.requires.good c.requires.few (sym c.start_refusal.ensures ∙ c.in_default.is) c.requires.keeps started)
 
@@ -29,8 +29,8 @@ pub returns-clause-goes : goal.returns-clause-goes
 returns-clause-goes c =
     let w = c.args.self.now in
     let i = numbered (w.names.count + 1) in
-    let started = new_starts w.client c.start.new.self c.args.plan w.client.id i c.drawn-id.result c.new-task.result c.left-left.result c.in_ok-start.field-0 c.drawn-id.ensures.id c.new-task.ensures c.in_ok-start.ensures in
-    let left : c.left-left.result ≡ copy.left_of (copy.new_task c.args.plan w.client.id i) = c.left-left.ensures ∙ ap copy.left_of (c.new-task.ensures ∙ ap (copy.new_task c.args.plan w.client.id) c.drawn-id.ensures.id) in
+    let started = new_starts w.client c.start.new.self c.args.plan w.client.id i c.drawn-id.result c.new-task.result c.left-left.result c.in_ok-start.field-0 c.drawn-id.ensures.id c.new-task.ensures.task c.in_ok-start.ensures in
+    let left : c.left-left.result ≡ copy.left_of (copy.new_task c.args.plan w.client.id i) = c.left-left.ensures ∙ ap copy.left_of (c.new-task.ensures.task ∙ ap (copy.new_task c.args.plan w.client.id) c.drawn-id.ensures.id) in
     subst (λ (names : Counter). Goes w (record w { names = names; client = c.start.new.self; applied = w.applied + 1 }) (done (plan_asked c.args.plan)) c.plain-2.result) (sym c.drawn-id.ensures.names)
     (subst (Goes w (with_name w c.start.new.self) (done (plan_asked c.args.plan))) (sym c.plain-2.ensures)
     (publish_goes w c.start.new.self c.args.plan c.left-left.result c.in_ok-start.field-0 c.requires.good c.requires.few (sym c.start_refusal.ensures ∙ c.in_default.is) left started))

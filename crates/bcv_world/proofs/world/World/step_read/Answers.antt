@@ -3,6 +3,7 @@ use Rattle.std.specs.Option.{option_copied}
 use Rattle.bcv_base.specs.declared.id.Id16.{Id16}
 use Rattle.bcv_store.specs.Plans.{next_of, rest_of}
 use Rattle.bcv_world.specs.Seen.{numbered_txn}
+use Rattle.bcv_world.proofs.OwnGrowth.{planned_one}
 use Rattle.bcv_world.proofs.PageOfBlock.{page_ends}
 use Rattle.bcv_world.proofs.StepRead.{reading, read_open, read_block, block_there, block_came, none_came, read_good, fault_goes, page_goes}
 use Rattle.bcv_world.proofs.world.World.step_read.Goals as goal
@@ -49,7 +50,7 @@ returns-in_default-2-clause-good c =
     let r = reading c.args.self.now c.args.place c.args.number c.in-Read.txn c.in-Read.page c.remove.result c.in-Some.open.now c.requires.good c.requires.runs c.remove.ensures.value (cc)
     (sym (c.find_txn.ensures ∙ ap (numbered_txn c.in-Read.txn) c.deref.ensures.value) ∙ ap option_copied c.in-Some.is) in
     read_good c.args.self.now c.get_block.new.store c.remove.new.self c.args.place _ c.requires.good r.at c.remove.ensures.items (c.get_block.ensures.log ∙ c.plan.ensures.log)
-    (c.get_block.ensures.plan ∙ ap rest_of c.plan.ensures.plan)
+    (c.get_block.ensures.plan ∙ ap rest_of (planned_one c.args.outcome _ _ c.requires.good.plan c.plan.ensures.plan))
 
 pub returns-in_default-2-clause-goes : goal.returns-in_default-2-clause-goes
 returns-in_default-2-clause-goes c =
@@ -59,7 +60,7 @@ returns-in_default-2-clause-goes c =
     (ap (λ (l : List Id16). slice_get l ((c.in-Read.page - 1) / (c.args.self.now.spec.block / c.in-Some.open.now.page_size))) (sym c.items.ensures) ∙ c.block_of_page-id.ensures) in
     fault_goes c.args.self.now c.get_block.new.store c.remove.new.self c.args.place c.args.number c.in-Read.txn c.in-Read.page c.in-Some.open.now c.args.outcome c.plain.result r c.remove.ensures.items
     (c.get_block.ensures.log ∙ c.plan.ensures.log)
-    (none_came c.args.self.now c.in-Read.page c.in-Some.open.now c.block_of_page-id.result _ c.args.outcome _ _ b c.plan.ensures.log c.in_ok-bytes.ensures.comes c.in_default-2.is (ap next_of c.plan.ensures.plan) c.requires.kept)
+    (none_came c.args.self.now c.in-Read.page c.in-Some.open.now c.block_of_page-id.result _ c.args.outcome _ _ b c.plan.ensures.log c.in_ok-bytes.ensures.comes c.in_default-2.is (ap next_of (planned_one c.args.outcome _ _ c.requires.good.plan c.plan.ensures.plan)) c.requires.kept)
     c.plain.ensures
 
 pub nonzero_div-at : goal.nonzero_div-at
@@ -89,7 +90,7 @@ returns-clause-good c =
     let r = reading c.args.self.now c.args.place c.args.number c.in-Read.txn c.in-Read.page c.remove.result c.in-Some.open.now c.requires.good c.requires.runs c.remove.ensures.value (cc)
     (sym (c.find_txn.ensures ∙ ap (numbered_txn c.in-Read.txn) c.deref.ensures.value) ∙ ap option_copied c.in-Some.is) in
     read_good c.args.self.now c.get_block.new.store c.remove.new.self c.args.place _ c.requires.good r.at c.remove.ensures.items (c.get_block.ensures.log ∙ c.plan.ensures.log)
-    (c.get_block.ensures.plan ∙ ap rest_of c.plan.ensures.plan)
+    (c.get_block.ensures.plan ∙ ap rest_of (planned_one c.args.outcome _ _ c.requires.good.plan c.plan.ensures.plan))
 
 pub returns-clause-goes : goal.returns-clause-goes
 returns-clause-goes c =
@@ -99,5 +100,5 @@ returns-clause-goes c =
     (ap (λ (l : List Id16). slice_get l ((c.in-Read.page - 1) / (c.args.self.now.spec.block / c.in-Some.open.now.page_size))) (sym c.items.ensures) ∙ c.block_of_page-id.ensures) in
     let came = block_came c.args.self.now c.in-Read.page c.in-Some.open.now c.block_of_page-id.result _ _ _ c.in-Some-2.bytes b c.plan.ensures.log c.in_ok-bytes.ensures.comes c.in-Some-2.is in
     page_goes c.args.self.now c.get_block.new.store c.remove.new.self c.args.place c.args.number c.in-Read.txn c.in-Read.page c.in-Some.open.now c.block_of_page-id.result c.args.outcome c.plain-2.result
-    c.deref-2.result.now c.of.result r b c.remove.ensures.items (c.get_block.ensures.log ∙ c.plan.ensures.log) (sym (ap next_of c.plan.ensures.plan) ∙ came.0) (c.deref-2.ensures.value ∙ came.1)
+    c.deref-2.result.now c.of.result r b c.remove.ensures.items (c.get_block.ensures.log ∙ c.plan.ensures.log) (sym (ap next_of (planned_one c.args.outcome _ _ c.requires.good.plan c.plan.ensures.plan)) ∙ came.0) (c.deref-2.ensures.value ∙ came.1)
     (c.of.ensures ∙ c.in_ok-page.ensures) c.plain-2.ensures

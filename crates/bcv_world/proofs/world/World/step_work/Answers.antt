@@ -1,7 +1,7 @@
 use Rattle.std.proofs.Common.{◌≡◌, ◌∙◌, ℕ, List, false, remove, insert, Vec, sym, ap, subst}
 use Rattle.std.specs.declared.alloc.Global.{Global}
 use Rattle.bcv_dbcopy.specs.State as copy
-use Rattle.bcv_memstore.specs.Told.{log_of, plan_of}
+use Rattle.bcv_memstore.specs.Told.{shown_by}
 use Rattle.bcv_model.specs.declared.reply.Reply.{Reply}
 use Rattle.bcv_model.specs.declared.reply.Reply.TheVariants as reply
 use Rattle.bcv_model.specs.declared.reply.Said.{Said}
@@ -13,7 +13,7 @@ use Rattle.bcv_world.specs.declared.world.World.{World}
 use Rattle.bcv_world.specs.Given.{stepped}
 use Rattle.bcv_world.specs.Moves.{Goes, IsPublish, plain, reply_of}
 use Rattle.bcv_world.specs.Stands.{IsGood}
-use Rattle.bcv_world.proofs.OwnGrowth.{IsStepped, Worked, behind}
+use Rattle.bcv_world.proofs.OwnGrowth.{IsStepped, Worked, behind, planned_one}
 use Rattle.bcv_world.proofs.StepWork.{ends_by, goes_stepped, work_ends, at_place, publishes, work_more, worked_as, worked_of}
 use Rattle.bcv_world.proofs.world.World.step_work.Goals as goal
 use Rattle.bcv_world.proofs.world.World.step_work.Goals.{in-More+in_ok-insert-in-More, in_default}
@@ -26,9 +26,9 @@ worked : (c : goal.Joined-drop) → (c.work-work.result ≡ work.NoMemory → �
     → Worked c.args.self.now c.args.place c.args.number c.publication-task.result.0 c.publication-task.result.1 c.args.outcome c.work-work.result c.work-work.new.self c.work-work.new.store c.work-work.new.names
 worked c memory =
     worked_of c.args.self.now c.args.place c.args.number c.remove.result c.publication-task.result.0 c.publication-task.result.1 c.args.outcome c.work-work.result c.work-work.new.self c.work-work.new.store c.work-work.new.names
-    (plan_of c.plan.new.self) (log_of c.plan.new.self) c.seen-seen.result (c.work-work.new.store ≡ c.plan.new.self) c.requires.good c.requires.few c.requires.runs c.remove.ensures.value c.publication-task.ensures
-    c.ready-ready.ensures.task c.requires.kept c.plan.ensures.plan c.plan.ensures.log c.seen-seen.ensures c.work-work.ensures.leaves
-    c.work-work.ensures.steps c.work-work.ensures.taken c.work-work.ensures.failed_names c.faults-faults.ensures.none memory
+    (shown_by c.plan.new.self) c.seen-seen.result c.requires.good c.requires.few c.requires.runs c.remove.ensures.value c.publication-task.ensures
+    c.ready-ready.ensures.task c.requires.kept (planned_one c.args.outcome _ _ c.requires.good.plan c.plan.ensures.plan) c.plan.ensures.log c.seen-seen.ensures c.work-work.ensures.leaves
+    c.work-work.ensures.works c.faults-faults.ensures.none memory
 
 -- an answer that is More is not NoMemory
 goes_on_is : (r : Work) → r ≡ work.More → r ≡ work.NoMemory → ⊥

@@ -1,6 +1,0 @@
-use Rattle.std.proofs.Common.{◌∙◌}
-use Rattle.bcv_dbmap.proofs.Chosen.{searched}
-use Rattle.bcv_dbmap.proofs.ids.is_one_of.Goals as goal
-
-pub returns : goal.returns
-returns c = c.is_ok.ensures.value ∙ searched c.args.ids.now c.args.id.now c.binary_search.result c.requires c.binary_search.ensures.bound c.binary_search.ensures.position
