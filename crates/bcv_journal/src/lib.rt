@@ -18,3 +18,6 @@ pub use fault::{JournalFault, Noted};
 pub use journal::Journal;
 pub use layout::loads_once;
 pub use load::Load;
+
+#[cfg(test)]
+mod tests;
