@@ -2,8 +2,10 @@
 //! client.
 //!
 //! The definitions stand in `specs/`, one module a part. A step is a relation between sides, the container with one
-//! client; `Step` puts the client back among the others, and `Run` is a list of steps. The functions here do nothing:
-//! their contracts are worked runs, and laws of the machine alone.
+//! client; `Step` puts the client back among the others, and `Run` is a list of steps. It stands on the versions, edits and
+//! views of `bcv_base` and on the asks, replies and notes of `bcv_model`. The functions here do nothing: their contracts
+//! are laws of the machine alone (`laws.rt`), and worked runs with what is refused of them (`runs.rt`). Nothing runs on it
+//! yet: it takes the place of the machine in `bcv_model` when the world stands on the client.
 #![tactic(auto)]
 
 mod laws;

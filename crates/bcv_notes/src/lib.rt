@@ -1,7 +1,9 @@
 //! Notes of a client's log as bytes, both ways, and what a client keeps by them.
 //!
 //! Where a note may stand depends on what is kept before it, and so does how a commit is read. So an item is read where
-//! something is kept: as the one note that may stand there and has these bytes, or as none.
+//! something is kept: as the one note that may stand there and has these bytes, or as none. It stands on the entries of
+//! `bcv_manifest` and on the notes and their fold in `bcv_model`, and on no disk: the client's log will keep these bytes in
+//! a journal.
 #![tactic(auto)]
 
 mod fields;

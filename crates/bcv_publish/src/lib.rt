@@ -2,7 +2,8 @@
 //!
 //! It stands on the trait of `bcv_store`, on the manifest's bytes of `bcv_manifest` and on the edits of `bcv_dbmap`. A
 //! publication gets the manifest, asks whether its edit may be applied to it, and puts the result in its place where it
-//! is still the manifest that was read. Over every store that tells its log it promises when each answer comes and what
+//! is still the manifest that was read. Beside it stand the create of a container, the put of a block under a drawn name,
+//! and the resolve of a publication whose put was not answered. Over every store that tells its log it promises when each answer comes and what
 //! the log has then. Over a sound log that others grow by lawful entries it promises more: what is read is the last
 //! manifest, a put appends a version to it or nothing, the log stays sound, and what was put is lawful to every other
 //! client that shares no name with this one.
