@@ -144,8 +144,7 @@ fn hostile_manifests(rt: HostRuntime) -> Result<(), Fail> {
 
 // Whether the entry at the front of the bytes is read, took so many, and is written again.
 fn is_entry_of(alloc: Global, block: u32, bytes: &[u8], want: usize) -> bool {
-    let is_of_limits = is_block_size(block);
-    if !is_of_limits {
+    if !is_block_size(block) {
         return false;
     }
     let mut out = Vec::new(alloc);
