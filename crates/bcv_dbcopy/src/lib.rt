@@ -19,6 +19,3 @@ mod task_work;
 pub use laws::{blocks_are_the_pages, blocks_stay, steps_fall};
 pub use plan::CopyPlan;
 pub use task::CopyTask;
-
-#[cfg(test)]
-mod tests;
