@@ -32,8 +32,6 @@ mod sizes;
 mod source;
 mod std_sink;
 mod std_source;
-#[cfg(test)]
-mod tests;
 
 pub use clock::{Clock, Now};
 pub use count_names::CountNames;

@@ -1,4 +1,3 @@
-pub mod CallerLemmas
 mod Entries
 mod Found
 mod Places

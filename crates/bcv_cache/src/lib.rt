@@ -9,8 +9,6 @@ mod cache;
 mod fill;
 mod held;
 mod pin;
-#[cfg(test)]
-mod tests;
 
 pub use cache::BlockCache;
 pub use pin::{Pin, Slot};

@@ -30,5 +30,4 @@ pub mod Publishes
 pub mod Room
 pub mod RulesLaws
 pub mod SoundLaws
-pub mod Trying
 pub mod Worked

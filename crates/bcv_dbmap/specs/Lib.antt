@@ -16,5 +16,4 @@ pub mod Past
 pub mod RequestGrowth
 pub mod Room
 pub mod Sound
-pub mod Tried
 pub mod Worked

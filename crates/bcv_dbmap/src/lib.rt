@@ -22,8 +22,6 @@ mod manifest_laws;
 mod marks;
 mod plan;
 mod sizes;
-#[cfg(test)]
-mod tests;
 mod writers;
 
 pub use applying::apply;

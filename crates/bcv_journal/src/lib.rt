@@ -18,6 +18,3 @@ pub use fault::{JournalFault, Noted};
 pub use journal::Journal;
 pub use layout::loads_once;
 pub use load::Load;
-
-#[cfg(test)]
-mod tests;

@@ -14,6 +14,3 @@ mod writing;
 pub use fault::{Bad, ReadFault};
 pub use reading::{read_entry, read_manifest};
 pub use writing::{write_entry, write_manifest};
-
-#[cfg(test)]
-mod tests;

@@ -1,5 +1,4 @@
 pub mod Asking
-pub mod Called
 pub mod Counting
 pub mod Listing
 pub mod Planning

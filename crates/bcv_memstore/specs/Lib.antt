@@ -1,4 +1,3 @@
-pub mod Called
 pub mod Etags
 pub mod EtagLaws
 pub mod Index

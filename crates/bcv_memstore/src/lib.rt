@@ -9,7 +9,5 @@ mod history;
 mod mem_store;
 mod places;
 mod plan;
-#[cfg(test)]
-mod tests;
 
 pub use mem_store::MemStore;

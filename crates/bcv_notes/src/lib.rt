@@ -23,6 +23,3 @@ pub use reading::read_note;
 pub use writing::{
     committed_note, done_note, first_note, intent_note, me_note, revert_note, void_note,
 };
-
-#[cfg(test)]
-mod tests;

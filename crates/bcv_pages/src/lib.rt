@@ -11,8 +11,6 @@ mod page_index;
 mod page_set;
 mod search;
 mod size_minima;
-#[cfg(test)]
-mod tests;
 mod write_txn;
 
 pub use page_set::PageSet;

@@ -6,7 +6,6 @@ pub mod Growth
 pub mod Made
 pub mod PutLaws
 pub mod ReadLaws
-pub mod Ready
 pub mod ResolveLaws
 pub mod Rising
 pub mod Unput

@@ -30,6 +30,3 @@ pub use pending::resolve;
 pub use publish::Publish;
 pub use resolved::Resolved;
 pub use work::{BlockEnd, PutEnd, Work};
-
-#[cfg(test)]
-mod tests;

@@ -20,6 +20,3 @@ mod writing;
 pub use fault::LineFault;
 pub use reading::{read_line, read_pair, read_world};
 pub use writing::write_reply;
-
-#[cfg(test)]
-mod tests;

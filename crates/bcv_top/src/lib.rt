@@ -54,6 +54,3 @@ fn is_replay(words: &[String]) -> bool
         _ => false,
     }
 }
-
-#[cfg(test)]
-mod tests;

@@ -21,6 +21,3 @@ mod txn;
 mod world;
 
 pub use world::World;
-
-#[cfg(test)]
-mod tests;

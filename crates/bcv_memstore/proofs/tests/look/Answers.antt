@@ -1,8 +1,0 @@
-use Rattle.bcv_memstore.proofs.Called.{looked, kept}
-use Rattle.bcv_memstore.proofs.tests.look.Goals as goal
-
-pub returns-clause-answered : goal.returns-clause-answered
-returns-clause-answered c is = looked _ _ _ _ _ _ _ c.requires (c.get.ensures.gets.told tt) is
-
-pub returns-clause-log : goal.returns-clause-log
-returns-clause-log c = kept _ _ _ _ _ _ _ (c.get.ensures.gets.told tt)

@@ -1,6 +1,0 @@
-use Rattle.std.proofs.Common.{None}
-use Rattle.bcv_publish.proofs.Ready.{ready_behind}
-use Rattle.bcv_publish.proofs.tests.publish.Goals as goal
-
-pub put-requires-clause-ready : goal.put-requires-clause-ready
-put-requires-clause-ready c = ready_behind (record { block = None; number = 0 }) c.args.plan.now c.args.publication.now c.get.new.self c.in-More.ensures.leaves c.requires.fits

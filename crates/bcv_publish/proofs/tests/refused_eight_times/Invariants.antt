@@ -1,5 +1,0 @@
-use Rattle.std.proofs.Common.{◌≤◌, length}
-use Rattle.bcv_publish.proofs.tests.refused_eight_times.Given as goal
-
-abbrev pub invariant-loop-tried : goal.invariant-loop-tried
-invariant-loop-tried g l = length l.publication.refused ≤ l.tried-counter

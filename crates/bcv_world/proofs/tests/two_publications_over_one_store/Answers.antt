@@ -1,7 +1,0 @@
-use Rattle.std.proofs.Common.{refl}
-use lib.Count.{ones}
-use Rattle.bcv_world.proofs.tests.two_publications_over_one_store.Goals as goal
-
-pub create-first-requires : goal.create-first-requires
-unfolding ones
-create-first-requires c d = refl

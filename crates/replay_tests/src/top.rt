@@ -1,0 +1,278 @@
+ghost use Rattle.std.specs.Prelude.{◌≤◌};
+
+use bcv_top::{Status, bcv_top, replay_top};
+use bcv_base::{MemSink, MemSource};
+use std::alloc::{AllocError, Global};
+use std::test::Fail;
+
+// A container is created, a database of one page made, and its page read; a second page is refused.
+const FIRST_READ: &str =
+    "world 1 1024 512 100 2\n1 create\n1 step 1\n1 new a aa\n1 step 1\n1 step 1\n1 step 1\n1 begin a\n1 read 1 1\n1 step 1\n1 read 1 2\n";
+
+const FIRST_REPLIES: &str =
+    "task 1 working 1\n+1 done 1\ntask 1 working 3\nworking 2\nworking 1\n+2 done 2\ntxn 1\ntask 1 working 1\npage aa\nbad-page\n";
+
+// How a replay ended, and what it wrote.
+#[derive(Drop)]
+struct Ran {
+    status: Status,
+    text: Vec<u8>,
+}
+
+// Replays a script that comes in pieces, from a source and to a sink that fail at these calls.
+fn replayed(
+    alloc: Global,
+    script: &[u8],
+    piece: usize,
+    takes: &[u64],
+    gives: &[u64],
+) -> Result<Ran, AllocError>
+    requires { 1 ≤ piece }
+{
+    let mut words = Vec::new(alloc);
+    words.push(format!(in alloc; "replay")?)?;
+    let mut bytes = Vec::new(alloc);
+    bytes.extend_from_slice(script)?;
+    let mut failing_takes = Vec::new(alloc);
+    failing_takes.extend_from_slice(takes)?;
+    let mut failing_gives = Vec::new(alloc);
+    failing_gives.extend_from_slice(gives)?;
+    let mut input = MemSource::new(bytes, piece, failing_takes);
+    let mut output = MemSink::new(alloc, failing_gives);
+    let status = bcv_top(alloc, &words, &mut input, &mut output);
+    let mut text = Vec::new(alloc);
+    text.extend_from_slice(output.bytes())?;
+    Ok(Ran { status, text })
+}
+
+// How many events the world took that a replay hands back; the sink fails at these calls.
+fn applied(alloc: Global, script: &[u8], gives: &[u64]) -> Result<Option<u64>, AllocError> {
+    let mut bytes = Vec::new(alloc);
+    bytes.extend_from_slice(script)?;
+    let mut failing = Vec::new(alloc);
+    failing.extend_from_slice(gives)?;
+    let mut input = MemSource::new(bytes, 65536, Vec::new(alloc));
+    let mut output = MemSink::new(alloc, failing);
+    match replay_top(alloc, &mut input, &mut output).world {
+        Some(world) => Ok(Some(world.applied())),
+        None => Ok(None),
+    }
+}
+
+#[test]
+fn worlds(rt: HostRuntime) -> Result<(), Fail> {
+    for (script, gives, count) in [
+        ("", [0u64], None),
+        ("world 2 1024 512 100 2\n1 create\n", [0], None),
+        ("world 1 1024 512 100 2\n", [0], Some(0)),
+        ("world 1 1024 512 100 2\n1 create\n1 step 1", [0], Some(2)),
+        ("world 1 1024 512 100 2\n1 create\n1 list\n", [0], Some(1)),
+        (FIRST_READ, [0], Some(10)),
+        (FIRST_READ, [2], Some(2)),
+    ] {
+        let taken = applied(rt.alloc(), script.as_bytes(), &gives)?;
+        assert_eq!(rt; taken, count, "{script}");
+    }
+    Ok(())
+}
+
+#[test]
+fn first_read(rt: HostRuntime) -> Result<(), Fail> {
+    let script = FIRST_READ.as_bytes();
+    for (piece, takes, gives, status, text) in [
+        (65536usize, [0u64], [0u64], Status::Done, FIRST_REPLIES),
+        (1, [0], [0], Status::Done, FIRST_REPLIES),
+        (1, [3], [0], Status::ReadFault, ""),
+        (65536, [0], [1], Status::WriteFault, ""),
+    ] {
+        let ran = replayed(rt.alloc(), script, piece.max(1), &takes, &gives)?;
+        assert_eq!(rt; ran.status, status);
+        assert_eq!(rt; ran.text.as_slice(), text.as_bytes());
+    }
+    Ok(())
+}
+
+// A container with a database of one page.
+const MADE: &str =
+    "world 1 1024 512 100 2\n1 create\n1 step 1\n1 new a aa\n1 step 1\n1 step 1\n1 step 1\n";
+
+const MADE_REPLIES: &str =
+    "task 1 working 1\n+1 done 1\ntask 1 working 3\nworking 2\nworking 1\n+2 done 2\n";
+
+// Whether a replay of these lines over that container says this of them.
+fn says(alloc: Global, lines: &str, text: &str) -> Result<bool, AllocError> {
+    let script = format!(in alloc; "{MADE}{lines}")?;
+    let replies = format!(in alloc; "{MADE_REPLIES}{text}")?;
+    let ran = replayed(alloc, script.as_bytes(), 65536, &[], &[])?;
+    Ok(ran.status == Status::Done && ran.text.as_slice() == replies.as_bytes())
+}
+
+// Copies and removals, a name that is taken, a task beside another one, requests that fail, and a pending publication.
+const COPIES: &str =
+    "1 copy a b\n1 step 1\n1 step 1\n1 copy a b\n1 step 1\n1 drop a\n1 step 1\n1 step 1\n1 begin a\n1 new c cc\n1 drop b\n1 step 1 fail\n1 copy b d\n1 step 1\n1 step 1 fail\n1 drop b\n";
+
+const COPIES_REPLIES: &str =
+    "task 1 working 2\nworking 1\n+3 done 3\ntask 1 working 2\nexists\ntask 1 working 2\nworking 1\n+4 done 4\nno-database\ntask 1 working 3\nbusy\nstore-fault\ntask 1 working 2\nworking 1\nunknown 00000000000000000000000000000009\npending\n";
+
+// A database of three blocks of two pages, read page by page.
+const SIX_PAGES: &str =
+    "1 new b 01 02 03 04 05 06\n1 step 1\n1 step 1\n1 step 1\n1 step 1\n1 step 1\n1 begin b\n1 read 1 1\n1 step 1\n1 read 1 2\n1 step 1\n1 read 1 3\n1 step 1\n1 read 1 4\n1 step 1\n1 read 1 5\n1 step 1\n1 read 1 6\n1 step 1\n1 read 1 7\n";
+
+const SIX_PAGES_REPLIES: &str =
+    "task 1 working 8\nworking 4\nworking 3\nworking 2\nworking 1\n+3 done 3\ntxn 1\ntask 1 working 1\npage 01\ntask 1 working 1\npage 02\ntask 1 working 1\npage 03\ntask 1 working 1\npage 04\ntask 1 working 1\npage 05\ntask 1 working 1\npage 06\nbad-page\n";
+
+// A copy has the pages of a database that is removed, whose open transaction goes on reading them.
+const REMOVED: &str =
+    "1 begin a\n1 copy a b\n1 step 1\n1 step 1\n1 drop a\n1 step 1\n1 step 1\n1 begin b\n1 read 1 1\n1 step 1\n1 read 2 1\n1 step 1\n";
+
+const REMOVED_REPLIES: &str =
+    "txn 1\ntask 1 working 2\nworking 1\n+3 done 3\ntask 1 working 2\nworking 1\n+4 done 4\ntxn 2\ntask 1 working 1\npage aa\ntask 1 working 1\npage aa\n";
+
+#[test]
+fn publications(rt: HostRuntime) -> Result<(), Fail> {
+    for (lines, text) in [
+        (COPIES, COPIES_REPLIES),
+        (SIX_PAGES, SIX_PAGES_REPLIES),
+        (REMOVED, REMOVED_REPLIES),
+        (
+            "1 create\n1 step 1\n1 step 3\n",
+            "task 1 working 1\nexists\nno-task\n",
+        ),
+        (
+            "1 drop b\n1 step 1\n1 copy b c\n1 step 1\n",
+            "task 1 working 2\nno-database\ntask 1 working 2\nno-database\n",
+        ),
+        (
+            "1 new b bb\n1 step 1\n1 step 1 fail\n1 begin b\n",
+            "task 1 working 3\nworking 2\nstore-fault\nno-database\n",
+        ),
+    ] {
+        assert!(rt; says(rt.alloc(), lines, text)?, "{lines}");
+    }
+    Ok(())
+}
+
+#[test]
+fn tasks(rt: HostRuntime) -> Result<(), Fail> {
+    let alloc = rt.alloc();
+    let mut lines = format!(in alloc; "1 begin a\n")?;
+    let mut text = format!(in alloc; "txn 1\n")?;
+    for number in 1..17u8 {
+        lines.push_str("1 read 1 1\n")?;
+        text.push_str(format!(in alloc; "task {number} working 1\n")?.as_str())?;
+    }
+    lines.push_str(
+        "1 read 1 1\n1 create\n1 step 5\n1 step 7 fail\n1 read 1 1\n1 create\n1 step 7\n1 step 5\n",
+    )?;
+    text.push_str(
+        "too-many\ntoo-many\npage aa\nstore-fault\ntask 5 working 1\ntask 7 working 1\nexists\npage aa\n",
+    )?;
+    assert!(rt; says(alloc, lines.as_str(), text.as_str())?);
+    Ok(())
+}
+
+#[test]
+fn scripts(rt: HostRuntime) -> Result<(), Fail> {
+    for (script, status, text) in [
+        ("", Status::BadScript { line: 1, at: 0 }, ""),
+        ("world 1 1024 512 100 2\n", Status::Done, ""),
+        ("world 1 1024 512 100 2", Status::Done, ""),
+        (
+            "world 2 1024 512 100 2\n",
+            Status::BadScript { line: 1, at: 0 },
+            "",
+        ),
+        (
+            "world 1 1024 512 100 2\n1 begin a\n1 new a aa\n1 step 1\n",
+            Status::Done,
+            "no-database\ntask 1 working 3\nno-container\n",
+        ),
+        (
+            "world 1 1024 512 100 2\n1 create",
+            Status::Done,
+            "task 1 working 1\n",
+        ),
+        (
+            "world 1 1024 512 100 2\n1 create\n1 create\n1 step 1\n1 step 1\n",
+            Status::Done,
+            "task 1 working 1\nbusy\n+1 done 1\nno-task\n",
+        ),
+        (
+            "world 1 1024 512 100 2\n1 create\n1 step 1 fail\n1 create\n",
+            Status::Done,
+            "task 1 working 1\nunknown 00000000000000000000000000000002\npending\n",
+        ),
+        (
+            "world 1 1024 512 100 2\n1 create\n1 step 1\n1 new a\n1 step 1\n1 step 1\n1 new a\n1 step 1\n",
+            Status::Done,
+            "task 1 working 1\n+1 done 1\ntask 1 working 2\nworking 1\n+2 done 2\ntask 1 working 2\nexists\n",
+        ),
+        (
+            "world 1 1024 512 100 2\n1 create\n1 list\n1 step 1\n",
+            Status::BadScript { line: 3, at: 0 },
+            "task 1 working 1\n",
+        ),
+        // A line that isn't in the grammar, and lines that are, of events that the world doesn't take.
+        (
+            "world 1 1024 512 100 2\n1 create\n1 step 1\n1 commit a 1 0=aa\n",
+            Status::BadScript { line: 4, at: 0 },
+            "task 1 working 1\n+1 done 1\n",
+        ),
+        (
+            "world 1 1024 512 100 2\n1 create\n1 step 1\n1 commit a 1 1=aa\n",
+            Status::BadScript { line: 4, at: 0 },
+            "task 1 working 1\n+1 done 1\n",
+        ),
+        (
+            "world 1 1024 512 100 2\ntick 1\n",
+            Status::BadScript { line: 2, at: 0 },
+            "",
+        ),
+        (
+            "world 1 1024 512 100 2\n1 create\n1 step 1 lost\n",
+            Status::BadScript { line: 3, at: 0 },
+            "task 1 working 1\n",
+        ),
+        (
+            "world 1 1024 512 100 2\n1 create\n\n",
+            Status::BadScript { line: 3, at: 0 },
+            "task 1 working 1\n",
+        ),
+    ] {
+        let ran = replayed(rt.alloc(), script.as_bytes(), 65536, &[], &[])?;
+        assert_eq!(rt; ran.status, status, "{script}");
+        assert_eq!(rt; ran.text.as_slice(), text.as_bytes(), "{script}");
+    }
+    Ok(())
+}
+
+#[test]
+fn long_line(rt: HostRuntime) -> Result<(), Fail> {
+    let mut line = Vec::new(rt.alloc());
+    line.resize(1048577, b'w')?;
+    assert_eq!(rt;
+        replayed(rt.alloc(), &line, 65536, &[], &[])?.status,
+        Status::TooLong
+    );
+    Ok(())
+}
+
+#[test]
+fn words(rt: HostRuntime) -> Result<(), Fail> {
+    let alloc = rt.alloc();
+    let mut input = MemSource::new(Vec::new(alloc), 1, Vec::new(alloc));
+    let mut output = MemSink::new(alloc, Vec::new(alloc));
+    let mut words = Vec::new(alloc);
+    assert_eq!(rt;
+        bcv_top(alloc, &words, &mut input, &mut output),
+        Status::BadWords
+    );
+    words.push(format!(in alloc; "replay")?)?;
+    words.push(format!(in alloc; "replay")?)?;
+    let mut again = MemSource::new(Vec::new(alloc), 1, Vec::new(alloc));
+    assert_eq!(rt;
+        bcv_top(alloc, &words, &mut again, &mut output),
+        Status::BadWords
+    );
+    Ok(())
+}
