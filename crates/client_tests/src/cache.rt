@@ -1,8 +1,8 @@
 ghost use Rattle.std.specs.Prelude.{◌≡◌, None};
 ghost use Rattle.bcv_cache.specs.Cache.{slot_of, KeepsPinned};
 
-use bcv_cache::{BlockCache, Slot};
 use bcv_base::Id16;
+use bcv_cache::{BlockCache, Slot};
 use std::alloc::Global;
 use std::process::Abort;
 use std::test::*;

@@ -1,5 +1,5 @@
-use bcv_journal::{Journal, JournalFault, Load, Noted};
 use bcv_disk::{Disk, DiskEnd, MemDisk, Planned, Size};
+use bcv_journal::{Journal, JournalFault, Load, Noted};
 use std::alloc::Global;
 use std::test::Fail;
 

@@ -1,6 +1,9 @@
-use bcv_notes::{after_note, committed_note, done_note, first_note, intent_note, me_note, read_note, revert_note, void_note};
 use bcv_base::Seq;
 use bcv_model::{Commit, Kept, Note};
+use bcv_notes::{
+    after_note, committed_note, done_note, first_note, intent_note, me_note, read_note,
+    revert_note, void_note,
+};
 use std::alloc::{AllocError, Global};
 use std::test::Fail;
 

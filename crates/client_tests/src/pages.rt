@@ -3,8 +3,8 @@ ghost use Rattle.bcv_base.specs.Views.{is_commit};
 ghost use Rattle.bcv_model.specs.Commits.{writes_of};
 ghost use Rattle.bcv_pages.specs.Held.{with_commit, last_of};
 
-use bcv_pages::{PageAt, PageSet, WriteFault, WriteTxn};
 use bcv_model::Commit;
+use bcv_pages::{PageAt, PageSet, WriteFault, WriteTxn};
 use std::alloc::{AllocError, Global};
 use std::fs;
 use std::process::Abort;

@@ -1,8 +1,8 @@
 ghost use Rattle.std.specs.Prelude.{◌≤◌, length};
 
-use bcv_script::{LineFault, read_line, read_pair, read_world, write_reply};
 use bcv_base::{DbName, Id16, Seq};
 use bcv_model::{Act, Ask, Event, Outcome, Reply, Row, Said, WorldSpec};
+use bcv_script::{LineFault, read_line, read_pair, read_world, write_reply};
 use std::alloc::{AllocError, Global};
 use std::test::Fail;
 

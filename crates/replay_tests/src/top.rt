@@ -1,7 +1,7 @@
 ghost use Rattle.std.specs.Prelude.{◌≤◌};
 
-use bcv_top::{Status, bcv_top, replay_top};
 use bcv_base::{MemSink, MemSource};
+use bcv_top::{Status, bcv_top, replay_top};
 use std::alloc::{AllocError, Global};
 use std::test::Fail;
 

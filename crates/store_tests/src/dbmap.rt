@@ -6,8 +6,8 @@ ghost use Rattle.bcv_base.specs.Names.{is_name};
 ghost use Rattle.bcv_dbmap.specs.Applied.{FitsPlan};
 ghost use Rattle.store_tests.specs.Tried.{IsTried};
 
-use bcv_dbmap::{EditFault, EditPlan, apply, check, first, listed};
 use bcv_base::{DbEntry, DbName, Dead, Id16, Manifest, Seq};
+use bcv_dbmap::{EditFault, EditPlan, apply, check, first, listed};
 use std::alloc::{AllocError, Global};
 use std::test::*;
 

@@ -1,6 +1,6 @@
-use bcv_manifest::{Bad, ReadFault, read_entry, read_manifest, write_entry, write_manifest};
 use bcv_base::limits::MOST_BYTES;
 use bcv_base::{is_block_size, manifest_len};
+use bcv_manifest::{Bad, ReadFault, read_entry, read_manifest, write_entry, write_manifest};
 use std::alloc::{AllocError, Global};
 use std::test::*;
 

@@ -3,8 +3,8 @@ ghost use Rattle.bcv_base.specs.Faults.{Rose};
 ghost use Rattle.store_tests.specs.Called.{Replaces};
 ghost use Rattle.bcv_memstore.specs.Told.{log_of, plan_of};
 
-use bcv_memstore::MemStore;
 use bcv_base::{Id16, ObjName, Outcome};
+use bcv_memstore::MemStore;
 use bcv_store::{Cond, Del, Got, Listed, Put, Store};
 use std::alloc::Global;
 use std::marker::Model;

@@ -1,9 +1,9 @@
 ghost use Rattle.std.specs.Prelude.{◌≡◌, ◌<◌, ◌≤◌, ◌+◌, ℕ, length, IfSome};
 ghost use Rattle.bcv_dbmap.specs.Applied.{FitsPlan};
 
-use bcv_publish::{BlockEnd, Created, Publish, PutEnd, Resolved, Work, create, put_named, resolve};
 use bcv_base::{CountNames, Id16, ObjName, Seen, Seq};
 use bcv_dbmap::EditPlan;
+use bcv_publish::{BlockEnd, Created, Publish, PutEnd, Resolved, Work, create, put_named, resolve};
 use bcv_store::{Cond, Del, Got, Listed, Put, Store};
 use std::alloc::Global;
 use std::test::Fail;
