@@ -9,7 +9,7 @@ use Rattle.bcv_cleanup.specs.Released.{Answers}
 abbrev pub Picks : Answers → ℕ → ℕ → List Dead → List Id16 → Type 0
 Picks answers moment retention [] ids = ids ≡ []
 Picks answers moment retention (e ∷ es) ids =
-    (answers e.stamp moment retention true × ((is : List Id16) × (ids ≡ e.id ∷ is) × Picks answers moment retention es is))
+    ((is : List Id16) × (ids ≡ e.id ∷ is) × answers e.stamp moment retention true × Picks answers moment retention es is)
     ⊎ (answers e.stamp moment retention false × Picks answers moment retention es ids)
 
 -- a walk that went past so many entries picked no more than may be taken, and stopped only there or at the end

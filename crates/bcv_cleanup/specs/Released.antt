@@ -42,4 +42,4 @@ Takes answers moment m (i ∷ is) ids = ids ≡ i ∷ is
 -- what a get takes of a manifest, and that it says whether the manifest has a further entry that the rule releases
 pub record Finds (answers : Answers) (moment : ℕ) (m : Manifest) (before ids : List Id16) (more : Bool) : Type 0 where
   pub takes : Takes answers moment m before ids
-  pub more : (released : Dead → Bool) → IsTestOf answers moment m.retention released → more ≡ has_more released ids m.dead
+  pub further : (released : Dead → Bool) → IsTestOf answers moment m.retention released → more ≡ has_more released ids m.dead

@@ -1,5 +1,5 @@
 //! Which dead blocks the rule releases: the first of them, and whether there are more.
-ghost use Rattle.std.specs.Prelude.{◌≡◌, ◌≤◌, Bool, [], length, vec_len, vec_capacity};
+ghost use Rattle.std.specs.Prelude.{◌≡◌, ◌≤◌, Bool, not, ◌&&◌, [], length, vec_len, vec_capacity};
 ghost use Rattle.bcv_base.specs.declared.manifest.Dead.{Dead};
 ghost use Rattle.bcv_base.specs.Ids.{has_id};
 ghost use Rattle.bcv_dbmap.specs.Deletions.{most_cleaned};
@@ -32,11 +32,12 @@ pub(crate) fn take_released<F: Fn(u64, u64, u64) -> bool>(
             return place;
         }
         let entry = dead[place];
-        if rule.releases(entry.stamp, moment, retention) {
-            match ids.push(entry.id) {
-                Ok(()) => {}
-                Err(_) => unreachable!(),
-            }
+        if !rule.releases(entry.stamp, moment, retention) {
+            continue;
+        }
+        match ids.push(entry.id) {
+            Ok(()) => {}
+            Err(_) => unreachable!(),
         }
     }
     dead.len()
@@ -55,12 +56,29 @@ pub(crate) fn releases_more<F: Fn(u64, u64, u64) -> bool>(
         result ≡ has_more released ids.now dead.now }
 {
     for entry in dead {
-        let stamp = entry.stamp;
-        if rule.releases(stamp, moment, retention) && !is_among(ids, &entry.id) {
+        if is_further(entry, retention, moment, rule, ids) {
             return true;
         }
     }
     false
+}
+
+// Whether the rule releases the entry, and it is not one of the ids.
+fn is_further<F: Fn(u64, u64, u64) -> bool>(
+    entry: &Dead,
+    retention: u64,
+    moment: u64,
+    rule: &KeepRule<F>,
+    ids: &[Id16],
+) -> bool
+    requires rule { IsKeepRule (F.pre rule.now.rule) (F.post rule.now.rule) }
+    ensures { (released : Dead → Bool) → IsTestOf (F.post rule.now.rule) moment retention released →
+        result ≡ (released entry.now && not (has_id entry.now.id ids.now)) }
+{
+    if !rule.releases(entry.stamp, moment, retention) {
+        return false;
+    }
+    !is_among(ids, &entry.id)
 }
 
 // Whether the id is one of these.
