@@ -1,2 +1,5 @@
+mod Cleanups
+mod GetLaws
+mod Sweeps
 mod Taken
 mod Walks

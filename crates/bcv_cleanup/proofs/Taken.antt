@@ -1,6 +1,6 @@
 -- What a cleanup has taken, over a log that grows.
-use Rattle.std.proofs.Common.{◌≡◌, ◌∙◌, ◌⊎◌, inl, inr, ℕ, ◌+◌, ◌≤◌, Bool, true, ◌||◌, List, [], ◌∷◌, ◌++◌, Option, Some, None, refl, sym, ap, subst}
-use Rattle.std.proofs.lemmas.Bool.{leb-le}
+use Rattle.std.proofs.Common.{◌≡◌, ◌∙◌, ◌⊎◌, inl, inr, ℕ, ◌+◌, ◌≤◌, Bool, true, false, ◌||◌, List, [], ◌∷◌, ◌++◌, Option, Some, None, refl, sym, ap, subst}
+use Rattle.std.proofs.lemmas.Bool.{leb-true}
 use Rattle.bcv_base.specs.declared.id.Id16.{Id16}
 use Rattle.bcv_base.specs.declared.log.Entry.{Entry}
 use Rattle.bcv_base.specs.declared.manifest.Dead.{Dead}
@@ -65,7 +65,7 @@ record WasDead (past : List Item) (i : Id16) (at : ℕ) : Type 0 where
 
 old_entry : (o : Option Dead) (retention at : ℕ) → is_old o retention at ≡ true → (e : Dead) × (o ≡ Some e) × (e.stamp + retention ≤ at)
 old_entry None retention at h = absurd (cc)
-old_entry (Some e) retention at h = (e, refl, leb-le (e.stamp + retention) at h)
+old_entry (Some e) retention at h = (e, refl, leb-true (e.stamp + retention) at h)
 
 dead_later : (x : Item) (past : List Item) (i : Id16) (at : ℕ) → WasDead past i at → WasDead (x ∷ past) i at
 dead_later x past i at d = record { manifest = d.manifest; published = inr d.published; entry = d.entry; found = d.found; passed = d.passed }

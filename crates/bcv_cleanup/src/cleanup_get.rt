@@ -29,7 +29,7 @@ impl Cleanup {
         moment: u64,
     ) -> Work
         requires rule { IsKeepRule (F.pre rule.now.rule) (F.post rule.now.rule) }
-        requires running { self.old.published ≡ false }
+        requires task { IsTask self.old }
         requires none { self.old.publish.latest ≡ None }
         requires moment { self.old.moment ≡ Some moment }
         ensures gets { GetsAt (F.post rule.now.rule) S.told (S.shown store.old) (S.shown store.new)
@@ -54,7 +54,7 @@ impl Cleanup {
         moment: u64,
     ) -> Work
         requires rule { IsKeepRule (F.pre rule.now.rule) (F.post rule.now.rule) }
-        requires running { self.old.published ≡ false }
+        requires task { IsTask self.old }
         requires none { self.old.publish.latest ≡ None }
         requires moment { self.old.moment ≡ Some moment }
         requires first { taken_ids self.old ≡ [] }
@@ -87,7 +87,7 @@ impl Cleanup {
         moment: u64,
     ) -> Work
         requires rule { IsKeepRule (F.pre rule.now.rule) (F.post rule.now.rule) }
-        requires running { self.old.published ≡ false }
+        requires task { IsTask self.old }
         requires none { self.old.publish.latest ≡ None }
         requires moment { self.old.moment ≡ Some moment }
         requires again { 1 ≤ length (taken_ids self.old) }
@@ -137,6 +137,7 @@ fn take_of<F: Fn(u64, u64, u64) -> bool>(
     requires room { most_cleaned ≤ vec_capacity ids.old }
     ensures finds { Finds (F.post rule.now.rule) moment manifest.now [] ids.new.items result }
     ensures few { length ids.new.items ≤ most_cleaned }
+    ensures none { ids.new.items ≡ [] → result ≡ false }
 {
     let dead = manifest.dead.items();
     let place = take_released(dead, manifest.retention, moment, rule, ids);

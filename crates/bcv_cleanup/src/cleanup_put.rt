@@ -2,6 +2,7 @@
 ghost use Rattle.std.specs.Prelude.{◌≡◌, true, MatchOption};
 ghost use Rattle.bcv_publish.specs.ManifestPut.{ManifestPutSound, ManifestPuts};
 ghost use Rattle.bcv_publish.specs.Request.{OverSoundLog};
+ghost use Rattle.bcv_cleanup.specs.CleanupDescent.{IsBelow};
 ghost use Rattle.bcv_cleanup.specs.CleanupPut.{CleansAll, MayPut, PutLeaves, is_published};
 ghost use Rattle.bcv_cleanup.specs.State.{IsRunning, is_ready, left_of};
 
@@ -29,6 +30,7 @@ impl Cleanup {
             self.old.publish read self.old.edit moment result self.new.publish)) }
         ensures complete { MatchOption self.old.publish.latest ⊥ (λ read. CleansAll self.old read result self.new) }
         ensures reached { S.reaches store.old store.new }
+        ensures falls { result ≡ PutEnd.Refused → IsBelow self.new self.old }
         ensures left { result ≡ PutEnd.Refused → left_of self.new ≡ 2 }
         ensures running { result ≡ PutEnd.Refused → IsRunning self.new }
     {

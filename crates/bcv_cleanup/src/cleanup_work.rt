@@ -1,6 +1,7 @@
 //! A step of a cleanup before the manifest's put.
 ghost use Rattle.std.specs.Prelude.{◌≡◌, false};
 ghost use Rattle.bcv_keeprule.specs.Retention.{IsKeepRule};
+ghost use Rattle.bcv_cleanup.specs.CleanupDescent.{IsBelow};
 ghost use Rattle.bcv_cleanup.specs.CleanupWork.{ReadsClock, TaskWorks, WorkLeaves};
 ghost use Rattle.bcv_cleanup.specs.State.{IsRunning, is_ready};
 
@@ -31,6 +32,7 @@ impl Cleanup {
         ensures works { TaskWorks S.told (S.shown store.old) (S.shown store.new) (C.shown clock.old) (C.shown clock.new)
             seen.now self.old result self.new }
         ensures reached { S.reaches store.old store.new }
+        ensures falls { result ≡ Work.More → IsBelow self.new self.old }
         ensures running { result ≡ Work.More → IsRunning self.new }
     {
         if self.publish.latest().is_some() {

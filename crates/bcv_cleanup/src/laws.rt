@@ -1,5 +1,4 @@
 //! Laws of cleanups. Each function does nothing: its clause is the law, for proofs to cite.
-ghost use Rattle.bcv_cleanup.specs.CleanupDescent.{PutFalls, WorkFalls};
 ghost use Rattle.bcv_cleanup.specs.CleanupPut.{SweepIsTheEdit, TakenStays};
 
 /// A cleanup publishes the machine's sweep. A client says by it which edit its put is.
@@ -11,10 +10,4 @@ pub fn sweep_is_the_edit()
 /// it what it knows of its cleanup.
 pub fn taken_stays()
     ensures { TakenStays }
-{}
-
-/// A step that goes on, and a put that is refused, lower the cleanup's state in an order that has no endless descent.
-pub fn steps_fall()
-    ensures work { WorkFalls }
-    ensures put { PutFalls }
 {}

@@ -19,4 +19,4 @@ mod laws;
 mod released;
 
 pub use cleanup::Cleanup;
-pub use laws::{steps_fall, sweep_is_the_edit, taken_stays};
+pub use laws::{sweep_is_the_edit, taken_stays};

@@ -1,5 +1,5 @@
 //! Which dead blocks the rule releases: the first of them, and whether there are more.
-ghost use Rattle.std.specs.Prelude.{◌≡◌, ◌≤◌, Bool, not, ◌&&◌, [], length, vec_len, vec_capacity};
+ghost use Rattle.std.specs.Prelude.{◌≡◌, ◌≤◌, Bool, false, not, ◌&&◌, [], length, vec_len, vec_capacity};
 ghost use Rattle.bcv_base.specs.declared.manifest.Dead.{Dead};
 ghost use Rattle.bcv_base.specs.Ids.{has_id};
 ghost use Rattle.bcv_dbmap.specs.Deletions.{most_cleaned};
@@ -54,6 +54,7 @@ pub(crate) fn releases_more<F: Fn(u64, u64, u64) -> bool>(
     requires rule { IsKeepRule (F.pre rule.now.rule) (F.post rule.now.rule) }
     ensures more { (released : Dead → Bool) → IsTestOf (F.post rule.now.rule) moment retention released →
         result ≡ has_more released ids.now dead.now }
+    ensures none { dead.now ≡ [] → result ≡ false }
 {
     for entry in dead {
         if is_further(entry, retention, moment, rule, ids) {
