@@ -1,5 +1,7 @@
 mod Cleanups
+mod DeleteLaws
 mod GetLaws
 mod Sweeps
 mod Taken
 mod Walks
+mod WorkLaws

@@ -84,3 +84,7 @@ was_dead_of (ManifestDeleted ∷ past) i at h = dead_later ManifestDeleted past 
 
 pub expired_is_deletable : (past : List Item) (i : Id16) (at : ℕ) → Sound past → was_expired past i at ≡ true → IsDeletable past i at
 expired_is_deletable past i at s h = let d = was_dead_of past i at h in dead_is_deletable past d.manifest i d.entry at s d.published d.found d.passed
+
+-- an entry of a published manifest whose retention has passed
+pub found_expired : (past : List Item) (m : Manifest) (i : Id16) (at : ℕ) → Sound past → IsPublished m past → is_old (keyed dead_id i.0 m.dead) m.retention at ≡ true → was_expired past i at ≡ true
+found_expired past m i at s published h = let e = old_entry (keyed dead_id i.0 m.dead) m.retention at h in (dead_is_deletable past m i e.0 at s published e.1 e.2).expired
