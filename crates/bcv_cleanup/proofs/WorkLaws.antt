@@ -119,3 +119,141 @@ kept_of o log seen s p read ends there =
     let both : Some ends.0 ≡ Some read = sym (ap (λ (q : publish.State). q.latest) ends.5.1) ∙ there in
     let same : ends.0 ≡ read = cc in
     subst (IsKept log) same ends.3
+
+-- ---- the clock
+
+-- what it was asked for
+record Asked (known : Option ℕ) (clock later : ClockShown) (moment : ℕ) (after : Option ℕ) : Type 0 where
+  is : after ≡ Some moment
+  once : IsMoment known moment
+  still : later.faults ≡ clock.faults
+
+asked_of : (known : Option ℕ) (clock later : ClockShown) (moment : ℕ) (after : Option ℕ) → ReadsClock known clock later (Some moment) after → Asked known clock later moment after
+asked_of None clock later moment after r = record { is = r.1; once = tt; still = r.0.cause }
+asked_of (Some earlier) clock later moment after r =
+    let both : Some earlier ≡ Some moment = sym r.2 in
+    let same : moment ≡ earlier = cc in
+    record { is = r.1 ∙ sym r.2; once = same; still = ap (λ (c : ClockShown). c.faults) r.0 }
+
+pub known_moment : (known : Option ℕ) (clock later : ClockShown) (moment : ℕ) (after : Option ℕ) → ReadsClock known clock later (Some moment) after → after ≡ Some moment
+known_moment known clock later moment after r = (asked_of known clock later moment after r).is
+
+asks_of : (store : StoreTold) (old new : StoreShown) (known : Option ℕ) (clock later : ClockShown) (seen : Seen) (s t : State) (moment : ℕ) (after : Option ℕ) (result : Work) → ReadsClock known clock later (Some moment) after
+    → t.moment ≡ Some moment → Usual store old new clock later seen s t result → AsksClock known clock later result t.moment
+asks_of store old new None clock later seen s t moment after result r timed u = u.asks (moment, r.0, timed)
+asks_of store old new (Some earlier) clock later seen s t moment after result r timed u = (r.0, timed ∙ r.2)
+
+-- ---- the whole
+
+module _ (answers : Answers) (store : StoreTold) (old : StoreShown) (clock later : ClockShown) (seen : Seen) (s : State) (moment : ℕ) (after : Option ℕ) (t : State) (task : IsTask s) (none : s.publish.latest ≡ None)
+    (clocked : ReadsClock s.moment clock later (Some moment) after) where
+  known : Asked s.moment clock later moment after
+  known = asked_of s.moment clock later moment after clocked
+
+  -- the get was made
+  module _ (new : StoreShown) (result : Work) (p : publish.State) (u : Usual store old new clock later seen s t result) (r : WasRead answers moment s p result t)
+      (gets : ManifestGets store old new seen s.edit s.publish (get_answer result) p) where
+    has_new : (mine : List Id16) → Sound (history_of new.log) → HasTaken new.log s → ManifestGetSound store mine old new seen s.edit s.publish (get_answer result) p → HasTaken new.log t
+    has_new mine sound has g = by_read r.is
+      where
+        by_read : (t ≡ with_moment s p moment) ⊎ ((ids : List Id16) × (more : Bool) × (get_answer result ≡ work.More) × Keeps answers moment s p ids more t) → HasTaken new.log t
+        by_read (inl before) = has_before answers moment s p t new.log task known.once has before
+        by_read (inr k) =
+            let ends = subst (λ (w : Work). SoundGetEnds g.outcome new.log seen s.edit s.publish w p) k.2 g.ends in
+            has_read answers moment s p t new.log task known.once has k.0 k.1 k.3 sound (kept_of g.outcome new.log seen s p k.3.read ends k.3.kept)
+
+    made_works : TaskWorks store old new clock later seen s result t
+    made_works = record {
+      asked = asks_of store old new s.moment clock later seen s t moment after result clocked r.timed u;
+      told = λ tells.
+          subst (λ (o : Option Latest). WorkTold store old new o seen s result t) (sym none)
+          (u.told (subst (λ (q : publish.State). ManifestGetTold store old new seen s.edit s.publish (get_answer result) q) (sym r.published) (gets.told tells)));
+      sound = λ tells mine sound honest has.
+          let g = gets.sound tells mine sound honest in
+          record {
+            growth = g.growth;
+            outcome = g.outcome;
+            next = g.next;
+            ends =
+                subst (λ (o : Option Latest). SoundWorkEnds g.outcome new.log g.growth.own o seen s result t) (sym none)
+                (g.no_own, u.reads g.outcome new.log (subst (λ (q : publish.State). SoundGetEnds g.outcome new.log seen s.edit s.publish (get_answer result) q) (sym r.published) g.ends));
+            taken =
+                has_new mine g.growth.sound
+                (subst (λ (l : List Entry). HasTaken l s) (sym g.growth.grown) (taken_stays (old.log ++ g.growth.others) g.growth.own s (taken_stays old.log g.growth.others s has))) g;
+          };
+      taken = u.takes gets.taken;
+      later = gets.later;
+      failed = λ is. gets.failed (u.fault is);
+      clock_failed = subst (λ (n : ℕ). WorkClockCause clock.faults n result) (sym known.still) (u.cause clock.faults);
+    }
+
+  -- memory ran out before it
+  none_made : (p : publish.State) → GetLeaves seen s.edit s.publish work.NoMemory p → t ≡ with_moment s p moment → TaskWorks store old old clock later seen s work.NoMemory t
+  none_made p leaves is =
+      let r = as_before answers moment s p t work.NoMemory is in
+      record {
+        asked = asks_of store old old s.moment clock later seen s t moment after work.NoMemory clocked r.timed (usual store old old clock later seen s t work.NoMemory (λ e. absurd cc));
+        told = λ tells. subst (λ (o : Option Latest). WorkTold store old old o seen s work.NoMemory t) (sym none) ([], no_others store.alone, sym (append-nil old.log));
+        sound = λ tells mine sound honest has.
+            let whole : old.log ≡ (old.log ++ []) ++ [] = sym (append-nil old.log) ∙ sym (append-nil (old.log ++ [])) in
+            let later_log = later_of store.alone mine old.log [] [] old.log (no_others store.alone) whole sound honest in
+            record {
+              growth = growth_of store.alone mine old.log [] [] old.log (no_others store.alone) later_log whole (omega arith) (λ theirs apart. tt);
+              outcome = next_of old.plan;
+              next = λ _. refl;
+              ends = subst (λ (o : Option Latest). SoundWorkEnds (next_of old.plan) old.log [] o seen s work.NoMemory t) (sym none) (refl, r.published ∙ leaves);
+              taken = has_before answers moment s p t old.log task known.once has is;
+            };
+        taken = inr refl;
+        later = omega arith;
+        failed = λ e. absurd cc;
+        clock_failed = known.still;
+      }
+
+  pub get_works : (new : StoreShown) (result : Work) → GetsAt answers store old new moment seen (record s { moment = Some moment }) result t → TaskWorks store old new clock later seen s result t
+  get_works new result g = by_made g.made
+    where
+      at_moment : WasRead answers moment (record s { moment = Some moment }) g.publication result t → WasRead answers moment s g.publication result t
+      at_moment r = record { timed = r.timed; published = r.published; is = by_kind r.is }
+        where
+          by_kind : (t ≡ with_moment s g.publication moment) ⊎ ((ids : List Id16) × (more : Bool) × (get_answer result ≡ work.More) × Keeps answers moment (record s { moment = Some moment }) g.publication ids more t)
+              → (t ≡ with_moment s g.publication moment) ⊎ ((ids : List Id16) × (more : Bool) × (get_answer result ≡ work.More) × Keeps answers moment s g.publication ids more t)
+          by_kind (inl before) = inl before
+          by_kind (inr k) = inr (k.0, k.1, k.2, record { read = k.3.read; kept = k.3.kept; finds = k.3.finds; becomes = k.3.becomes })
+
+      by_made : GetMade store old new seen s result g.publication → TaskWorks store old new clock later seen s result t
+      by_made (inl gets) =
+          let other : result ≡ work.ClockFault → ⊥ = λ e. subst (λ (w : Work). GetLeaves seen s.edit s.publish (get_answer w) g.publication) e g.leaves in
+          made_works new result g.publication (usual store old new clock later seen s t result other) (at_moment (was_read answers moment (record s { moment = Some moment }) g.publication t result g.keeps)) gets
+      by_made (inr unmade) =
+          subst (λ (w : Work). TaskWorks store old new clock later seen s w t) (sym unmade.0)
+          (subst (λ (x : StoreShown). TaskWorks store old x clock later seen s work.NoMemory t) (sym unmade.1)
+          (none_made g.publication (subst (λ (w : Work). GetLeaves seen s.edit s.publish (get_answer w) g.publication) unmade.0 g.leaves) (subst (λ (w : Work). ReadLeaves answers moment (record s { moment = Some moment }) g.publication w t) unmade.0 g.keeps)))
+
+-- the clock failed
+pub fault_works : (store : StoreTold) (old : StoreShown) (clock later : ClockShown) (seen : Seen) (s : State) (after : Option ℕ) → s.publish.latest ≡ None → ReadsClock s.moment clock later None after
+    → TaskWorks store old old clock later seen s work.ClockFault (record s { moment = after })
+fault_works store old clock later seen s after none r = by_known s.moment refl r
+  where
+    by_known : (o : Option ℕ) → s.moment ≡ o → ReadsClock o clock later None after → TaskWorks store old old clock later seen s work.ClockFault (record s { moment = after })
+    by_known (Some earlier) is r = let both : ◌≡◌ {A = Option ℕ} None (Some earlier) = r.2 in absurd cc
+    by_known None is r =
+        let same : record s { moment = after } ≡ s = ap (λ (m : Option ℕ). record s { moment = m }) (r.1 ∙ sym is) in
+        record {
+          asked = subst (λ (o : Option ℕ). AsksClock o clock later work.ClockFault after) (sym is) r;
+          told = λ tells. subst (λ (o : Option Latest). WorkTold store old old o seen s work.ClockFault (record s { moment = after })) (sym none) refl;
+          sound = λ tells mine sound honest has.
+              let whole : old.log ≡ (old.log ++ []) ++ [] = sym (append-nil old.log) ∙ sym (append-nil (old.log ++ [])) in
+              let later_log = later_of store.alone mine old.log [] [] old.log (no_others store.alone) whole sound honest in
+              record {
+                growth = growth_of store.alone mine old.log [] [] old.log (no_others store.alone) later_log whole (omega arith) (λ theirs apart. tt);
+                outcome = next_of old.plan;
+                next = λ _. refl;
+                ends = subst (λ (o : Option Latest). SoundWorkEnds (next_of old.plan) old.log [] o seen s work.ClockFault (record s { moment = after })) (sym none) (refl, same);
+                taken = subst (HasTaken old.log) (sym same) has;
+              };
+          taken = refl;
+          later = omega arith;
+          failed = λ e. absurd cc;
+          clock_failed = r.0.cause;
+        }
