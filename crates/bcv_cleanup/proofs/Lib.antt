@@ -1,6 +1,7 @@
 mod Cleanups
 mod DeleteLaws
 mod GetLaws
+mod PutLaws
 mod Sweeps
 mod Taken
 mod Walks
