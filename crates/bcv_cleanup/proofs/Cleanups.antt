@@ -1,9 +1,6 @@
 -- What each step keeps of a cleanup.
-use Rattle.std.proofs.Common.{◌≡◌, ◌∙◌, ◌⊎◌, inl, inr, ℕ, ◌+◌, ◌-◌, ◌<◌, ◌≤◌, Bool, true, false, not, ◌&&◌, ◌==◌, cond, List, [], ◌∷◌, ◌++◌, length, length-append, Option, Some, None, IsSome, MatchOption, is_some, is_none, refl, sym, ap, subst, arith}
-use Rattle.std.specs.Cmp.{first_so, second_so}
-use Rattle.std.proofs.lemmas.Bool.{eqb-true, eqb-false}
+use Rattle.std.proofs.Common.{◌≡◌, ◌∙◌, ℕ, ◌≤◌, Bool, List, [], ◌∷◌, length, Option, Some, None, is_some, refl, sym, ap, subst, arith}
 use Rattle.bcv_base.specs.declared.id.Id16.{Id16}
-use Rattle.bcv_base.specs.declared.seen.Latest.{Latest}
 use Rattle.bcv_base.specs.declared.seen.Seen.{Seen}
 use Rattle.bcv_dbmap.specs.declared.plan.EditPlan.{EditPlan}
 use Rattle.bcv_dbmap.specs.declared.plan.EditPlan.TheVariants as edit
@@ -13,7 +10,7 @@ use Rattle.bcv_publish.specs.declared.work.Work.{Work}
 use Rattle.bcv_publish.specs.declared.work.Work.TheVariants as work
 use Rattle.bcv_publish.specs.ManifestGet.{GetLeaves}
 use Rattle.bcv_publish.specs.State as publish
-use Rattle.bcv_cleanup.specs.State.{State, IsTask, IsRunning, IsTimed, IsRead, Passed, taken_ids}
+use Rattle.bcv_cleanup.specs.State.{State, IsTask, IsTimed, IsRead, taken_ids}
 use Rattle.bcv_cleanup.proofs.Sweeps.{sweep_passes}
 
 -- ---- the get

@@ -1,5 +1,5 @@
 -- What the deletion of a block says, from what the store says of it.
-use Rattle.std.proofs.Common.{◌≡◌, ◌∙◌, ◌⊎◌, inl, inr, ℕ, zero, suc, ◌+◌, ◌<◌, ◌≤◌, Bool, true, false, ◌||◌, List, [], ◌∷◌, ◌++◌, take, length, append-nil, get_or, Option, Some, None, slice_get, refl, sym, ap, subst, arith}
+use Rattle.std.proofs.Common.{◌≡◌, ◌∙◌, ◌⊎◌, inl, inr, ℕ, zero, suc, ◌+◌, ◌≤◌, Bool, true, false, ◌||◌, List, [], ◌∷◌, ◌++◌, take, length, append-nil, Option, Some, slice_get, refl, sym, ap, subst, arith}
 use Rattle.std.proofs.lemmas.List.{take_more}
 use Rattle.std.proofs.lemmas.Option.{get_or_from_slice_get, slice_get_within}
 use Rattle.bcv_base.specs.declared.id.Id16.{Id16}
@@ -10,8 +10,8 @@ use Rattle.bcv_base.specs.declared.outcome.Outcome.{Outcome}
 use Rattle.bcv_base.specs.declared.outcome.Outcome.TheVariants as outcome
 use Rattle.bcv_base.specs.declared.seen.Latest.{Latest}
 use Rattle.bcv_base.specs.declared.seen.Seen.{Seen}
-use Rattle.bcv_base.specs.History.{Item, BlockDeleted, history_of}
-use Rattle.bcv_base.specs.HistoryLaws.{has_id-first, has_id-later, history_of-more, id_eq-self}
+use Rattle.bcv_base.specs.History.{Item, history_of}
+use Rattle.bcv_base.specs.HistoryLaws.{has_id-first, has_id-later, history_of-more}
 use Rattle.bcv_base.specs.Ids.{id_eq, has_id}
 use Rattle.bcv_base.specs.Moments.{ClockShown}
 use Rattle.bcv_dbmap.specs.Deletions.{IsDeletable}
@@ -28,7 +28,7 @@ use Rattle.bcv_store.specs.declared.store.Del.TheVariants as del
 use Rattle.bcv_store.specs.Asked.{DeleteAnswers, DeleteFails, DeleteTold}
 use Rattle.bcv_store.specs.Requests.{StoreDeletes}
 use Rattle.bcv_store.specs.StoreShown.{StoreTold, StoreShown}
-use Rattle.bcv_cleanup.specs.CleanupWork.{AsksClock, DeleteEnds, DeleteLeaves, DeletesBlock, DeletesNext, DeletionFails, HasTaken, IsDeletion, IsExpired, IsNext, SoundDeleteEnds, SoundWorkEnds, TaskWorks, WorkClockCause, WorkSound, WorkTakes, WorkTold, delete_work}
+use Rattle.bcv_cleanup.specs.CleanupWork.{AsksClock, DeleteEnds, DeleteLeaves, DeletesBlock, DeletesNext, HasTaken, IsDeletion, IsExpired, IsNextBlock, SoundDeleteEnds, SoundWorkEnds, TaskWorks, WorkClockCause, WorkSound, WorkTakes, WorkTold, delete_work}
 use Rattle.bcv_cleanup.specs.State.{State, taken_ids}
 use Rattle.bcv_cleanup.proofs.Taken.{expired_is_deletable, taken_stays}
 
@@ -138,7 +138,7 @@ after_of s t del.NoMemory leaves = record { moment = ap (λ (x : State). x.momen
 
 -- ---- the whole
 
-module _ (store : StoreTold) (old new : StoreShown) (s : State) (t : State) (id : Id16) (at : ℕ) (next : IsNext s id at) (answer : Del) (deletes : StoreDeletes store old new (object.Block id) at answer)
+module _ (store : StoreTold) (old new : StoreShown) (s : State) (t : State) (id : Id16) (at : ℕ) (next : IsNextBlock s id at) (answer : Del) (deletes : StoreDeletes store old new (object.Block id) at answer)
     (leaves : DeleteLeaves s (delete_work answer) t) where
   told_of : DeleteTold store old new (object.Block id) at answer → DeletesBlock store old new s (delete_work answer)
   told_of d = record {

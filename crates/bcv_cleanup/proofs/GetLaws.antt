@@ -1,7 +1,6 @@
 -- What the manifest's get of a cleanup comes to, from what the publication's get answered.
-use Rattle.std.proofs.Common.{◌≡◌, ◌∙◌, ◌⊎◌, inl, inr, ℕ, ◌≤◌, Bool, true, false, List, [], ◌∷◌, length, Option, Some, None, refl, sym, ap, subst, arith}
+use Rattle.std.proofs.Common.{◌≡◌, ◌∙◌, ◌⊎◌, inl, inr, ℕ, ◌≤◌, Bool, false, List, [], ◌∷◌, length, Option, Some, None, refl, sym, ap, subst, arith}
 use Rattle.bcv_base.specs.declared.id.Id16.{Id16}
-use Rattle.bcv_base.specs.declared.manifest.Dead.{Dead}
 use Rattle.bcv_base.specs.declared.seen.Latest.{Latest}
 use Rattle.bcv_base.specs.declared.seen.Seen.{Seen}
 use Rattle.bcv_dbmap.specs.declared.plan.EditPlan.{EditPlan}
@@ -11,14 +10,14 @@ use Rattle.bcv_publish.specs.declared.work.Work.TheVariants as work
 use Rattle.bcv_publish.specs.ManifestGet.{GetLeaves, ManifestGets}
 use Rattle.bcv_publish.specs.State as publish
 use Rattle.bcv_store.specs.StoreShown.{StoreTold, StoreShown}
-use Rattle.bcv_cleanup.specs.CleanupWork.{GetsAt, Keeps, MoreOf, ReadLeaves, TakenWork, get_answer, with_moment, with_taken}
-use Rattle.bcv_cleanup.specs.Released.{Answers, Finds, IsTestOf, Takes, has_more}
+use Rattle.bcv_cleanup.specs.CleanupWork.{GetsAt, KeepsRead, MoreOf, ReadLeaves, TakenWork, get_answer, with_moment}
+use Rattle.bcv_cleanup.specs.Released.{RuleAnswers, FindsDead, TakesDead}
 use Rattle.bcv_cleanup.specs.State.{State, taken_ids}
 
 -- ---- the publication's answer
 
 -- a get that kept no manifest changed nothing, and it did not answer More
-record KeptNone (answers : Answers) (moment : ℕ) (s : State) (result : Work) (p : publish.State) : Type 0 where
+record KeptNone (answers : RuleAnswers) (moment : ℕ) (s : State) (result : Work) (p : publish.State) : Type 0 where
   same : p ≡ s.publish
   answer : get_answer result ≡ result
   leaves : (t : State) → t ≡ with_moment s p moment → ReadLeaves answers moment s p result t
@@ -29,7 +28,7 @@ record KeptOne (result : Work) (p : publish.State) : Type 0 where
   kept : p.latest ≡ Some read
   more : result ≡ work.More
 
-module _ (answers : Answers) (moment : ℕ) (seen : Seen) (s : State) where
+module _ (answers : RuleAnswers) (moment : ℕ) (seen : Seen) (s : State) where
   none_or_one : (result : Work) (p : publish.State) → GetLeaves seen s.edit s.publish result p → KeptNone answers moment s result p ⊎ KeptOne result p
   none_or_one work.More p l = inr (record { read = l.0; kept = ap (λ (q : publish.State). q.latest) l.5; more = refl })
   none_or_one (work.Fault f) p l = inl (record { same = l; answer = refl; leaves = λ t is. is })
@@ -61,7 +60,7 @@ module _ (answers : Answers) (moment : ℕ) (seen : Seen) (s : State) where
 
 -- ---- the cleanup then
 
-module _ (answers : Answers) (store : StoreTold) (old new : StoreShown) (moment : ℕ) (seen : Seen) (s : State) (result : Work) (p : publish.State) (timed : s.moment ≡ Some moment)
+module _ (answers : RuleAnswers) (store : StoreTold) (old new : StoreShown) (moment : ℕ) (seen : Seen) (s : State) (result : Work) (p : publish.State) (timed : s.moment ≡ Some moment)
     (leaves : GetLeaves seen s.edit s.publish result p) (gets : ManifestGets store old new seen s.edit s.publish result p) where
   -- where none was kept
   pub none_gets : p.latest ≡ None → GetsAt answers store old new moment seen s result (record s { publish = p })
@@ -75,8 +74,8 @@ module _ (answers : Answers) (store : StoreTold) (old new : StoreShown) (moment 
       }
 
   -- where one was kept, and these ids are taken of it
-  one_gets : (l : Latest) (ids : List Id16) (more : Bool) → s.publish.latest ≡ None → p.latest ≡ Some l → Finds answers moment l.manifest (taken_ids s) ids more
-      → Keeps answers moment s p ids more (record s { edit = edit.Sweep ids; publish = p; more = more })
+  one_gets : (l : Latest) (ids : List Id16) (more : Bool) → s.publish.latest ≡ None → p.latest ≡ Some l → FindsDead answers moment l.manifest (taken_ids s) ids more
+      → KeepsRead answers moment s p ids more (record s { edit = edit.Sweep ids; publish = p; more = more })
   one_gets l ids more none there finds = record {
     read = l;
     kept = there;
@@ -84,7 +83,7 @@ module _ (answers : Answers) (store : StoreTold) (old new : StoreShown) (moment 
     becomes = ap (λ (m : Option ℕ). record s { edit = edit.Sweep ids; publish = p; moment = m; more = more }) timed;
   }
 
-  pub first_gets : (l : Latest) (ids : List Id16) (more : Bool) (answer : Work) → s.publish.latest ≡ None → taken_ids s ≡ [] → p.latest ≡ Some l → Finds answers moment l.manifest [] ids more → (ids ≡ [] → more ≡ false)
+  pub first_gets : (l : Latest) (ids : List Id16) (more : Bool) (answer : Work) → s.publish.latest ≡ None → taken_ids s ≡ [] → p.latest ≡ Some l → FindsDead answers moment l.manifest [] ids more → (ids ≡ [] → more ≡ false)
       → TakenWork ids answer → GetsAt answers store old new moment seen s answer (record s { edit = edit.Sweep ids; publish = p; more = more })
   first_gets l [] more answer none first there finds nothing is =
       let asked = kept_one answers moment seen s result p l none leaves there in
@@ -92,10 +91,11 @@ module _ (answers : Answers) (store : StoreTold) (old new : StoreShown) (moment 
       (record {
         publication = p;
         leaves = subst (λ (w : Work). GetLeaves seen s.edit s.publish w p) asked leaves;
-        keeps =
-            (first,
-            subst (λ (b : Bool). Keeps answers moment s p [] b (record s { edit = edit.Sweep []; publish = p; more = more })) (nothing refl)
-            (one_gets l [] more none there (subst (λ (before : List Id16). Finds answers moment l.manifest before [] more) (sym first) finds)));
+        keeps = (
+          first,
+          subst (λ (b : Bool). KeepsRead answers moment s p [] b (record s { edit = edit.Sweep []; publish = p; more = more })) (nothing refl)
+              (one_gets l [] more none there (subst (λ (before : List Id16). FindsDead answers moment l.manifest before [] more) (sym first) finds)),
+        );
         made = inl (subst (λ (w : Work). ManifestGets store old new seen s.edit s.publish w p) asked gets);
       })
   first_gets l (i ∷ is) more answer none first there finds nothing given =
@@ -104,7 +104,7 @@ module _ (answers : Answers) (store : StoreTold) (old new : StoreShown) (moment 
       (record {
         publication = p;
         leaves = subst (λ (w : Work). GetLeaves seen s.edit s.publish w p) asked leaves;
-        keeps = (i ∷ is, more, omega arith, one_gets l (i ∷ is) more none there (subst (λ (before : List Id16). Finds answers moment l.manifest before (i ∷ is) more) (sym first) finds));
+        keeps = (i ∷ is, more, omega arith, one_gets l (i ∷ is) more none there (subst (λ (before : List Id16). FindsDead answers moment l.manifest before (i ∷ is) more) (sym first) finds));
         made = inl (subst (λ (w : Work). ManifestGets store old new seen s.edit s.publish w p) asked gets);
       })
 
@@ -113,7 +113,7 @@ module _ (answers : Answers) (store : StoreTold) (old new : StoreShown) (moment 
       → GetsAt answers store old new moment seen s result (record s { publish = p; more = more })
   again_gets more none sweeps some says = by_latest p.latest refl says
     where
-      nothing_more : (before ids : List Id16) (m : _) → 1 ≤ length ids → before ≡ ids → Takes answers moment m before ids
+      nothing_more : (before ids : List Id16) (m : _) → 1 ≤ length ids → before ≡ ids → TakesDead answers moment m before ids
       nothing_more [] [] m some same = absurd (omega (arith, some))
       nothing_more [] (i ∷ is) m some same = absurd cc
       nothing_more (i ∷ is) ids m some same = sym same
@@ -122,13 +122,16 @@ module _ (answers : Answers) (store : StoreTold) (old new : StoreShown) (moment 
       by_latest None kept says = subst (λ (b : Bool). GetsAt answers store old new moment seen s result (record s { publish = p; more = b })) (sym says) (none_gets kept)
       by_latest (Some l) kept says =
           let asked = kept_one answers moment seen s result p l none leaves kept in
-          let finds : Finds answers moment l.manifest (taken_ids s) (taken_ids s) more = record { takes = nothing_more (taken_ids s) (taken_ids s) l.manifest some refl; further = says } in
+          let finds : FindsDead answers moment l.manifest (taken_ids s) (taken_ids s) more = record { takes = nothing_more (taken_ids s) (taken_ids s) l.manifest some refl; further = says } in
           subst (λ (w : Work). GetsAt answers store old new moment seen s w (record s { publish = p; more = more })) (sym asked)
           (record {
             publication = p;
             leaves = subst (λ (w : Work). GetLeaves seen s.edit s.publish w p) asked leaves;
-            keeps =
-                (taken_ids s, more, some,
-                subst (λ (e : EditPlan). Keeps answers moment s p (taken_ids s) more (record s { edit = e; publish = p; more = more })) (sym sweeps) (one_gets l (taken_ids s) more none kept finds));
+            keeps = (
+              taken_ids s,
+              more,
+              some,
+              subst (λ (e : EditPlan). KeepsRead answers moment s p (taken_ids s) more (record s { edit = e; publish = p; more = more })) (sym sweeps) (one_gets l (taken_ids s) more none kept finds),
+            );
             made = inl (subst (λ (w : Work). ManifestGets store old new seen s.edit s.publish w p) asked gets);
           })

@@ -1,23 +1,22 @@
 -- A cleanup that published is complete.
-use Rattle.std.proofs.Common.{◌≡◌, ◌∙◌, ℕ, Bool, true, false, not, ◌&&◌, ◌||◌, cond, List, [], ◌∷◌, Option, Some, None, MatchOption, refl, sym, ap, subst}
+use Rattle.std.proofs.Common.{◌≡◌, ◌∙◌, ℕ, Bool, true, false, not, ◌&&◌, ◌||◌, cond, List, [], ◌∷◌, take, Option, Some, None, MatchOption, refl, sym, ap, subst}
 use Rattle.std.specs.List.{filter, list_any}
 use Rattle.bcv_base.specs.declared.manifest.Dead.{Dead}
-use Rattle.bcv_base.specs.declared.manifest.Manifest.{Manifest}
 use Rattle.bcv_base.specs.declared.seen.Latest.{Latest}
 use Rattle.bcv_base.specs.Ids.{has_id}
 use Rattle.bcv_base.specs.ManifestRules.{MeetsRules}
 use Rattle.bcv_dbmap.specs.declared.plan.EditPlan.{EditPlan}
 use Rattle.bcv_dbmap.specs.declared.plan.EditPlan.TheVariants as edit
 use Rattle.bcv_dbmap.specs.Applied.{applied}
-use Rattle.bcv_dbmap.specs.Deletions.{CleanedAll, cleaned}
+use Rattle.bcv_dbmap.specs.Deletions.{most_cleaned}
 use Rattle.bcv_dbmap.proofs.CleanupLaws.{sweep_leaves_others}
 use Rattle.bcv_publish.specs.declared.work.PutEnd.{PutEnd}
 use Rattle.bcv_publish.specs.declared.work.PutEnd.TheVariants as put
 use Rattle.bcv_publish.specs.ManifestPut as publishing
 use Rattle.bcv_publish.specs.State as publish
-use Rattle.bcv_cleanup.specs.CleanupPut.{CleansAll, IsComplete, SaysMore, TookAll, behind_put}
-use Rattle.bcv_cleanup.specs.Released.{has_more}
-use Rattle.bcv_cleanup.specs.State.{IsRead, IsTask, Passed, State, taken_ids}
+use Rattle.bcv_cleanup.specs.CleanupPut.{CleansAll, IsComplete, NothingIsComplete, behind_put}
+use Rattle.bcv_cleanup.specs.Released.{has_more, ids_of}
+use Rattle.bcv_cleanup.specs.State.{IsRead, IsTask, State, taken_ids}
 
 -- what passes one test among those that pass another one passes both
 any_kept : (test other : Dead → Bool) (dead : List Dead) → list_any test (filter other dead) ≡ list_any (λ (e : Dead). test e && other e) dead
@@ -67,3 +66,23 @@ any_complete moment s end p t still leaves = by_latest s.publish.latest (t.stage
     by_latest : (o : Option Latest) → IsRead s o → MatchOption o ⊥ (λ read. publishing.PutLeaves s.edit moment s.publish read end p) → MatchOption o ⊥ (λ read. CleansAll s read end (behind_put s p end))
     by_latest None read leaves = absurd leaves
     by_latest (Some l) read leaves = complete moment s l end p t.edit read.rules leaves
+
+-- ---- without a publication
+
+-- where none are first, none are released
+no_first : (xs : List Dead) → [] ≡ ids_of (take most_cleaned xs) → xs ≡ []
+no_first [] h = refl
+no_first (x ∷ xs) h = absurd cc
+
+none_released : (released : Dead → Bool) (dead : List Dead) → filter released dead ≡ [] → false ≡ list_any released dead
+none_released released [] h = refl
+none_released released (e ∷ es) h = by_test (released e) refl h (none_released released es)
+  where
+    by_test : (b : Bool) → released e ≡ b → cond b (e ∷ filter released es) (filter released es) ≡ [] → (filter released es ≡ [] → false ≡ list_any released es) → false ≡ list_any released (e ∷ es)
+    by_test true is h later = absurd cc
+    by_test false is h later = later h ∙ ap (λ (b : Bool). b || list_any released es) (sym is)
+
+pub nothing_is_complete : NothingIsComplete
+nothing_is_complete released read none =
+    let empty : filter released read.dead ≡ [] = no_first (filter released read.dead) none in
+    record { takes = sym (ap (λ (l : List Dead). take most_cleaned l) empty); left = none_released released read.dead empty }

@@ -1,17 +1,15 @@
 -- A sweep of any ids passes where one of none does, and what it publishes.
-use Rattle.std.proofs.Common.{◌≡◌, ◌∙◌, ℕ, ◌+◌, ◌*◌, ◌<◌, ◌≤◌, Bool, true, false, not, ◌&&◌, cond, List, [], ◌∷◌, length, Option, Some, None, is_none, nat_lt, nat_le, refl, sym, ap, subst, arith}
+use Rattle.std.proofs.Common.{◌≡◌, ◌∙◌, ℕ, ◌≤◌, Bool, false, not, ◌&&◌, cond, List, [], ◌∷◌, length, Some, None, is_none, nat_lt, nat_le, refl, ap, arith}
 use Rattle.std.specs.List.{filter}
 use Rattle.std.proofs.lemmas.Bool.{le-ltb, ltb-false}
 use Rattle.std.proofs.lemmas.List.Filters.{length-filter_both}
 use Rattle.bcv_base.specs.declared.id.Id16.{Id16}
 use Rattle.bcv_base.specs.declared.manifest.Dead.{Dead}
-use Rattle.bcv_base.specs.declared.manifest.DbEntry.{DbEntry}
 use Rattle.bcv_base.specs.declared.manifest.Manifest.{Manifest}
 use Rattle.bcv_base.specs.Ids.{has_id}
 use Rattle.bcv_base.specs.Keyed.{keyed}
 use Rattle.bcv_base.specs.ManifestRules.{MeetsRules, length_of, writer_id}
 use Rattle.bcv_base.specs.SizeLimits.{most_bytes, most_dead, most_writers}
-use Rattle.bcv_dbmap.specs.declared.fault.EditFault.{EditFault}
 use Rattle.bcv_dbmap.specs.declared.fault.EditFault.TheVariants as fault
 use Rattle.bcv_dbmap.specs.declared.plan.EditPlan.TheVariants as edit
 use Rattle.bcv_dbmap.specs.Applied.{applied}

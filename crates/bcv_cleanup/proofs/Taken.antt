@@ -1,5 +1,5 @@
 -- What a cleanup has taken, over a log that grows.
-use Rattle.std.proofs.Common.{◌≡◌, ◌∙◌, ◌⊎◌, inl, inr, ℕ, ◌+◌, ◌≤◌, Bool, true, false, ◌||◌, List, [], ◌∷◌, ◌++◌, Option, Some, None, refl, sym, ap, subst}
+use Rattle.std.proofs.Common.{◌≡◌, inl, inr, ℕ, ◌+◌, ◌≤◌, Bool, true, false, ◌||◌, List, [], ◌∷◌, ◌++◌, Option, Some, None, refl, sym, subst}
 use Rattle.std.proofs.lemmas.Bool.{leb-true}
 use Rattle.bcv_base.specs.declared.id.Id16.{Id16}
 use Rattle.bcv_base.specs.declared.log.Entry.{Entry}
@@ -7,7 +7,7 @@ use Rattle.bcv_base.specs.declared.manifest.Dead.{Dead}
 use Rattle.bcv_base.specs.declared.manifest.Manifest.{Manifest}
 use Rattle.bcv_base.specs.History.{Item, BlockPut, Published, Unreadable, BlockDeleted, ManifestDeleted, item_of, history_after, history_of}
 use Rattle.bcv_base.specs.HistoryLaws.{history_after-append}
-use Rattle.bcv_base.specs.Ids.{id_eq, has_id}
+use Rattle.bcv_base.specs.Ids.{id_eq}
 use Rattle.bcv_base.specs.Keyed.{keyed}
 use Rattle.bcv_base.specs.ManifestRules.{dead_id}
 use Rattle.bcv_dbmap.specs.Deletions.{IsDeletable}
@@ -17,8 +17,7 @@ use Rattle.bcv_dbmap.specs.Sound.{Sound}
 use Rattle.bcv_dbmap.proofs.BlockLaws.{dead_is_deletable}
 use Rattle.bcv_dbmap.proofs.Bools.{or_right}
 use Rattle.bcv_cleanup.specs.CleanupPut.{TakenStays}
-use Rattle.bcv_cleanup.specs.CleanupWork.{HasTaken, IsExpired}
-use Rattle.bcv_cleanup.specs.State.{State, taken_ids}
+use Rattle.bcv_cleanup.specs.CleanupWork.{IsExpired}
 
 -- ---- what is so stays so
 

@@ -1,6 +1,6 @@
 -- Walks over a delete list: what is picked, and whether there is more.
-use Rattle.std.proofs.Common.{◌≡◌, ◌∙◌, ◌⊎◌, inl, inr, ℕ, zero, suc, ◌+◌, ◌<◌, ◌≤◌, ◌^◌, Bool, true, false, not, ◌&&◌, ◌||◌, cond, List, [], ◌∷◌, ◌++◌, map, take, drop, length, append-nil, get_or, Option, Some, refl, sym, ap, subst, arith}
-use Rattle.std.specs.List.{AllByRecursion, filter, list_any}
+use Rattle.std.proofs.Common.{◌≡◌, ◌∙◌, ◌⊎◌, inl, inr, ℕ, zero, suc, ◌+◌, ◌<◌, ◌≤◌, ◌^◌, Bool, true, false, not, ◌&&◌, ◌||◌, cond, List, [], ◌∷◌, ◌++◌, take, drop, length, get_or, Option, Some, refl, sym, ap, subst, arith}
+use Rattle.std.specs.List.{AllByRecursion, filter}
 use Rattle.std.proofs.Math.Seq.{drop-cons, take-append_seam, take-length}
 use Rattle.std.proofs.lemmas.Bool.{le-leb}
 use Rattle.std.proofs.lemmas.List.{take_all, take_more, take-append-drop, length-map}
@@ -16,10 +16,10 @@ use Rattle.bcv_base.specs.Keyed.{keyed}
 use Rattle.bcv_base.specs.ManifestRules.{MeetsRules, MeetsDeadRules, IsAbove, Ascends, dead_id}
 use Rattle.bcv_dbmap.specs.Deletions.{cleaned, most_cleaned}
 use Rattle.bcv_dbmap.specs.Past.{is_old}
-use Rattle.bcv_dbmap.proofs.Keys.{by_test, before_other, key_same, keyed_here, keyed_there}
+use Rattle.bcv_dbmap.proofs.Keys.{before_other, key_same, keyed_here, keyed_there}
 use Rattle.bcv_keeprule.specs.Retention.{IsKeepRule}
 use Rattle.bcv_cleanup.specs.Picks.{Picks, PicksFirst}
-use Rattle.bcv_cleanup.specs.Released.{Answers, Finds, IsTestOf, TakesFirst, has_more, ids_of}
+use Rattle.bcv_cleanup.specs.Released.{RuleAnswers, FindsDead, IsTestOf, has_more, ids_of}
 
 -- ---- one entry more
 
@@ -31,7 +31,7 @@ passed_one released ids dead k d within none =
     ap (λ (l : List Dead). has_more released ids l) (drop-cons dead k d within) ∙ ap (λ (b : Bool). b || has_more released ids (drop (suc k) dead)) (sym none)
     ∙ ap (λ (n : ℕ). has_more released ids (drop n dead)) next
 
-module _ (answers : Answers) (moment retention : ℕ) where
+module _ (answers : RuleAnswers) (moment retention : ℕ) where
   kept_out : (dead : List Dead) (ids : List Id16) (e : Dead) → Picks answers moment retention dead ids → answers e.stamp moment retention false → Picks answers moment retention (dead ++ e ∷ []) ids
   kept_out [] ids e p says = inr (says, p)
   kept_out (x ∷ xs) ids e (inl p) says = inl (p.0, p.1, p.2, kept_out xs p.0 e p.3 says)
@@ -67,7 +67,7 @@ front_of P zero xs all = tt
 front_of P (suc n) [] all = tt
 front_of P (suc n) (x ∷ xs) all = (all.0, front_of P n xs all.1)
 
-module _ (answers : Answers) (moment retention : ℕ) (released : Dead → Bool) (test : IsTestOf answers moment retention released) where
+module _ (answers : RuleAnswers) (moment retention : ℕ) (released : Dead → Bool) (test : IsTestOf answers moment retention released) where
   -- what is picked are the entries that the test releases
   picks_are : (dead : List Dead) (ids : List Id16) → AreMoments dead → Picks answers moment retention dead ids → ids ≡ ids_of (filter released dead)
   picks_are [] ids fits p = p
@@ -90,7 +90,7 @@ none_besides released (e ∷ es) ids all = by_answer (released e) refl (none_bes
     by_answer false is later all = ap (λ (b : Bool). (b && not (has_id e.id ids)) || has_more released ids es) is ∙ later all
 
 -- what a walk took are the first entries that the test releases, and what it did not reach says whether there are more
-module _ (answers : Answers) (moment retention place : ℕ) (dead : List Dead) (ids : List Id16) (fits : AreMoments dead) (p : PicksFirst answers moment retention dead place ids)
+module _ (answers : RuleAnswers) (moment retention place : ℕ) (dead : List Dead) (ids : List Id16) (fits : AreMoments dead) (p : PicksFirst answers moment retention dead place ids)
     (released : Dead → Bool) (test : IsTestOf answers moment retention released) where
   abbrev reached : List Dead
   reached = take place dead
@@ -134,7 +134,7 @@ each_found (x ∷ xs) asc = (keyed_here dead_id x.id.0 x xs (key_same x.id.0), l
     later (y ∷ ys) above all = (keyed_there dead_id y.id.0 x xs (before_other x.id.0 y.id.0 above.0) ∙ all.0, later ys above.1 all.1)
 
 -- what the rule releases has its retention behind it
-module _ (answers : Answers) (moment retention : ℕ) (patient : (stamp : ℕ) → stamp < 2 ^ 64 → answers stamp moment retention true → stamp + retention ≤ moment) (dead : List Dead) where
+module _ (answers : RuleAnswers) (moment retention : ℕ) (patient : (stamp : ℕ) → stamp < 2 ^ 64 → answers stamp moment retention true → stamp + retention ≤ moment) (dead : List Dead) where
   expired : (xs : List Dead) (ids : List Id16) (i : Id16) → AllByRecursion (λ (e : Dead). keyed dead_id e.id.0 dead ≡ Some e) xs → AreMoments xs → Picks answers moment retention xs ids → has_id i ids ≡ true
       → is_old (keyed dead_id i.0 dead) retention moment ≡ true
   expired [] ids i found fits p h = let none : has_id i [] ≡ true = sym (ap (has_id i) p) ∙ h in absurd cc
@@ -149,13 +149,12 @@ module _ (answers : Answers) (moment retention : ℕ) (patient : (stamp : ℕ) �
 
 -- ---- what a first get finds
 
-
 are_moments : (dbs : List DbEntry) (dead : List Dead) → AllByRecursion (MeetsDeadRules dbs) dead → AreMoments dead
 are_moments dbs [] all = tt
 are_moments dbs (e ∷ es) all = (all.0.stamp, are_moments dbs es all.1)
 
-pub finds_first : (asks : ℕ → ℕ → ℕ → Type 0) (answers : Answers) (moment : ℕ) (m : Manifest) (place : ℕ) (ids : List Id16) (more : Bool) → IsKeepRule asks answers → moment < 2 ^ 64 → MeetsRules m
-    → PicksFirst answers moment m.retention m.dead place ids → ((released : Dead → Bool) → IsTestOf answers moment m.retention released → more ≡ has_more released ids (drop place m.dead)) → Finds answers moment m [] ids more
+pub finds_first : (asks : ℕ → ℕ → ℕ → Type 0) (answers : RuleAnswers) (moment : ℕ) (m : Manifest) (place : ℕ) (ids : List Id16) (more : Bool) → IsKeepRule asks answers → moment < 2 ^ 64 → MeetsRules m
+    → PicksFirst answers moment m.retention m.dead place ids → ((released : Dead → Bool) → IsTestOf answers moment m.retention released → more ≡ has_more released ids (drop place m.dead)) → FindsDead answers moment m [] ids more
 finds_first asks answers moment m place ids more rule small rules p rest =
     let fits = are_moments m.dbs m.dead rules.each_dead in
     record {

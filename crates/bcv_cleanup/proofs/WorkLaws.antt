@@ -3,16 +3,13 @@ use Rattle.std.proofs.Common.{◌≡◌, ◌∙◌, ◌⊎◌, inl, inr, ℕ, �
 use Rattle.bcv_base.specs.declared.clock.Now.TheVariants as now
 use Rattle.bcv_base.specs.declared.id.Id16.{Id16}
 use Rattle.bcv_base.specs.declared.log.Entry.{Entry}
-use Rattle.bcv_base.specs.declared.manifest.Manifest.{Manifest}
 use Rattle.bcv_base.specs.declared.outcome.Outcome.{Outcome}
 use Rattle.bcv_base.specs.declared.seen.Latest.{Latest}
 use Rattle.bcv_base.specs.declared.seen.Seen.{Seen}
 use Rattle.bcv_base.specs.History.{Item, history_of}
 use Rattle.bcv_base.specs.Ids.{has_id}
 use Rattle.bcv_base.specs.Moments.{ClockShown, Tells}
-use Rattle.bcv_dbmap.specs.Honest.{GrewHonestly}
 use Rattle.bcv_dbmap.specs.Kept.{IsKept}
-use Rattle.bcv_dbmap.specs.Past.{was_deleted}
 use Rattle.bcv_dbmap.specs.Sound.{Sound}
 use Rattle.bcv_dbmap.proofs.KeptLaws.{kept_published}
 use Rattle.bcv_publish.specs.declared.work.Work.{Work}
@@ -23,8 +20,8 @@ use Rattle.bcv_publish.specs.State as publish
 use Rattle.bcv_publish.proofs.Growth.{growth_of, later_of, no_others}
 use Rattle.bcv_store.specs.Plans.{next_of}
 use Rattle.bcv_store.specs.StoreShown.{StoreTold, StoreShown}
-use Rattle.bcv_cleanup.specs.CleanupWork.{AsksClock, GetMade, GetTold, GetsAt, HasTaken, IsExpired, IsMoment, Keeps, ReadLeaves, ReadsClock, SoundReadEnds, SoundWorkEnds, TaskWorks, WorkClockCause, WorkSound, WorkTakes, WorkTold, get_answer, with_moment, with_taken}
-use Rattle.bcv_cleanup.specs.Released.{Answers, Takes}
+use Rattle.bcv_cleanup.specs.CleanupWork.{AsksClock, GetMade, ReadTold, GetsAt, HasTaken, IsExpired, IsMoment, KeepsRead, ReadLeaves, ReadsClock, SoundReadEnds, SoundWorkEnds, TaskWorks, WorkClockCause, WorkTakes, WorkTold, get_answer, with_moment, with_taken}
+use Rattle.bcv_cleanup.specs.Released.{RuleAnswers, TakesDead}
 use Rattle.bcv_cleanup.specs.State.{State, IsTask, taken_ids}
 use Rattle.bcv_cleanup.proofs.Taken.{found_expired, taken_stays}
 
@@ -33,7 +30,7 @@ use Rattle.bcv_cleanup.proofs.Taken.{found_expired, taken_stays}
 -- what holds of every answer but that of a clock that failed
 record Usual (store : StoreTold) (old new : StoreShown) (clock later : ClockShown) (seen : Seen) (s t : State) (result : Work) : Type 0 where
   asks : ((moment : ℕ) × Tells clock later (now.At moment) × (t.moment ≡ Some moment)) → AsksClock None clock later result t.moment
-  told : ManifestGetTold store old new seen s.edit s.publish (get_answer result) t.publish → GetTold store old new seen s result t
+  told : ManifestGetTold store old new seen s.edit s.publish (get_answer result) t.publish → ReadTold store old new seen s result t
   reads : (o : Outcome) (log : List Entry) → SoundGetEnds o log seen s.edit s.publish (get_answer result) t.publish → SoundReadEnds o log seen s result t
   takes : TakesOutcome store old new → WorkTakes store old new result
   cause : (count : ℕ) → WorkClockCause count count result
@@ -55,16 +52,16 @@ module _ (store : StoreTold) (old new : StoreShown) (clock later : ClockShown) (
   usual work.ClockFault other = absurd (other refl)
 
 -- which cleanup a get leaves: one with what it took of a manifest, or as before but for the moment
-record WasRead (answers : Answers) (moment : ℕ) (s : State) (p : publish.State) (result : Work) (t : State) : Type 0 where
+record WasRead (answers : RuleAnswers) (moment : ℕ) (s : State) (p : publish.State) (result : Work) (t : State) : Type 0 where
   timed : t.moment ≡ Some moment
   published : t.publish ≡ p
-  is : (t ≡ with_moment s p moment) ⊎ ((ids : List Id16) × (more : Bool) × (get_answer result ≡ work.More) × Keeps answers moment s p ids more t)
+  is : (t ≡ with_moment s p moment) ⊎ ((ids : List Id16) × (more : Bool) × (get_answer result ≡ work.More) × KeepsRead answers moment s p ids more t)
 
-module _ (answers : Answers) (moment : ℕ) (s : State) (p : publish.State) (t : State) where
+module _ (answers : RuleAnswers) (moment : ℕ) (s : State) (p : publish.State) (t : State) where
   as_before : (result : Work) → t ≡ with_moment s p moment → WasRead answers moment s p result t
   as_before result is = record { timed = ap (λ (x : State). x.moment) is; published = ap (λ (x : State). x.publish) is; is = inl is }
 
-  with_ids : (result : Work) (ids : List Id16) (more : Bool) → get_answer result ≡ work.More → Keeps answers moment s p ids more t → WasRead answers moment s p result t
+  with_ids : (result : Work) (ids : List Id16) (more : Bool) → get_answer result ≡ work.More → KeepsRead answers moment s p ids more t → WasRead answers moment s p result t
   with_ids result ids more asked k = record { timed = ap (λ (x : State). x.moment) k.becomes; published = ap (λ (x : State). x.publish) k.becomes; is = inr (ids, more, asked, k) }
 
   was_read : (result : Work) → ReadLeaves answers moment s p result t → WasRead answers moment s p result t
@@ -91,15 +88,15 @@ expired_at past i (Some earlier) moment is h = subst (λ (at : ℕ). IsExpired p
 none_among : (i : Id16) (n : ℕ) (ids : List Id16) → n ≤ 0 → has_id i (take n ids) ≡ true → ⊥
 none_among i n ids few h = let zero_of : n ≡ 0 = omega arith in let none : has_id i (take 0 ids) ≡ true = sym (ap (λ (k : ℕ). has_id i (take k ids)) zero_of) ∙ h in cc
 
-module _ (answers : Answers) (moment : ℕ) (s : State) (p : publish.State) (t : State) (log : List Entry) (task : IsTask s) (known : IsMoment s.moment moment) (has : HasTaken log s) where
+module _ (answers : RuleAnswers) (moment : ℕ) (s : State) (p : publish.State) (t : State) (log : List Entry) (task : IsTask s) (known : IsMoment s.moment moment) (has : HasTaken log s) where
   has_before : t ≡ with_moment s p moment → HasTaken log t
   has_before is =
       subst (HasTaken log) (sym is) (record { expired = λ i h. expired_at (history_of log) i s.moment moment known (has.expired i h); deleted = has.deleted })
 
-  has_read : (ids : List Id16) (more : Bool) (k : Keeps answers moment s p ids more t) → Sound (history_of log) → IsKept log k.read → HasTaken log t
+  has_read : (ids : List Id16) (more : Bool) (k : KeepsRead answers moment s p ids more t) → Sound (history_of log) → IsKept log k.read → HasTaken log t
   has_read ids more k sound kept = subst (HasTaken log) (sym k.becomes) (by_taken (taken_ids s) refl k.finds.takes)
     where
-      by_taken : (before : List Id16) → taken_ids s ≡ before → Takes answers moment k.read.manifest before ids → HasTaken log (with_taken s p moment ids more)
+      by_taken : (before : List Id16) → taken_ids s ≡ before → TakesDead answers moment k.read.manifest before ids → HasTaken log (with_taken s p moment ids more)
       by_taken [] first takes =
           let few : length (taken_ids s) ≡ 0 = ap (λ (l : List Id16). length l) first in
           record {
@@ -145,7 +142,7 @@ asks_of store old new (Some earlier) clock later seen s t moment after result r 
 
 -- ---- the whole
 
-module _ (answers : Answers) (store : StoreTold) (old : StoreShown) (clock later : ClockShown) (seen : Seen) (s : State) (moment : ℕ) (after : Option ℕ) (t : State) (task : IsTask s) (none : s.publish.latest ≡ None)
+module _ (answers : RuleAnswers) (store : StoreTold) (old : StoreShown) (clock later : ClockShown) (seen : Seen) (s : State) (moment : ℕ) (after : Option ℕ) (t : State) (task : IsTask s) (none : s.publish.latest ≡ None)
     (clocked : ReadsClock s.moment clock later (Some moment) after) where
   known : Asked s.moment clock later moment after
   known = asked_of s.moment clock later moment after clocked
@@ -156,7 +153,7 @@ module _ (answers : Answers) (store : StoreTold) (old : StoreShown) (clock later
     has_new : (mine : List Id16) → Sound (history_of new.log) → HasTaken new.log s → ManifestGetSound store mine old new seen s.edit s.publish (get_answer result) p → HasTaken new.log t
     has_new mine sound has g = by_read r.is
       where
-        by_read : (t ≡ with_moment s p moment) ⊎ ((ids : List Id16) × (more : Bool) × (get_answer result ≡ work.More) × Keeps answers moment s p ids more t) → HasTaken new.log t
+        by_read : (t ≡ with_moment s p moment) ⊎ ((ids : List Id16) × (more : Bool) × (get_answer result ≡ work.More) × KeepsRead answers moment s p ids more t) → HasTaken new.log t
         by_read (inl before) = has_before answers moment s p t new.log task known.once has before
         by_read (inr k) =
             let ends = subst (λ (w : Work). SoundGetEnds g.outcome new.log seen s.edit s.publish w p) k.2 g.ends in
@@ -216,8 +213,8 @@ module _ (answers : Answers) (store : StoreTold) (old : StoreShown) (clock later
       at_moment : WasRead answers moment (record s { moment = Some moment }) g.publication result t → WasRead answers moment s g.publication result t
       at_moment r = record { timed = r.timed; published = r.published; is = by_kind r.is }
         where
-          by_kind : (t ≡ with_moment s g.publication moment) ⊎ ((ids : List Id16) × (more : Bool) × (get_answer result ≡ work.More) × Keeps answers moment (record s { moment = Some moment }) g.publication ids more t)
-              → (t ≡ with_moment s g.publication moment) ⊎ ((ids : List Id16) × (more : Bool) × (get_answer result ≡ work.More) × Keeps answers moment s g.publication ids more t)
+          by_kind : (t ≡ with_moment s g.publication moment) ⊎ ((ids : List Id16) × (more : Bool) × (get_answer result ≡ work.More) × KeepsRead answers moment (record s { moment = Some moment }) g.publication ids more t)
+              → (t ≡ with_moment s g.publication moment) ⊎ ((ids : List Id16) × (more : Bool) × (get_answer result ≡ work.More) × KeepsRead answers moment s g.publication ids more t)
           by_kind (inl before) = inl before
           by_kind (inr k) = inr (k.0, k.1, k.2, record { read = k.3.read; kept = k.3.kept; finds = k.3.finds; becomes = k.3.becomes })
 

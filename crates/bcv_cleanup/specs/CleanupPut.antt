@@ -1,5 +1,5 @@
 -- The manifest's put of a cleanup.
-use Rattle.std.specs.Prelude.{◌≡◌, ℕ, Bool, true, false, List, ◌++◌, MatchOption}
+use Rattle.std.specs.Prelude.{◌≡◌, ℕ, Bool, true, false, List, [], ◌++◌, MatchOption}
 use Rattle.bcv_base.specs.declared.id.Id16.{Id16}
 use Rattle.bcv_base.specs.declared.log.Entry.{Entry}
 use Rattle.bcv_base.specs.declared.manifest.Dead.{Dead}
@@ -70,3 +70,7 @@ IsComplete released first _ s = Unit {0}
 -- where it took all of the manifest that was read first, and says what the one that was read last has besides, it is complete
 abbrev pub CleansAll : State → Latest → PutEnd → State → Type 0
 CleansAll old read result new = (released : Dead → Bool) (first : Manifest) → TookAll released first old → SaysMore released read.manifest old → IsComplete released first result new
+
+-- where the first manifest had nothing to take, the cleanup is complete without a publication
+abbrev pub NothingIsComplete : Type 0
+NothingIsComplete = (released : Dead → Bool) (read : Manifest) → [] ≡ ids_of (cleaned released read.dead) → CleanedAll released read read [] false

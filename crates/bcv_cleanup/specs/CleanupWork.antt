@@ -28,7 +28,7 @@ use Rattle.bcv_store.specs.declared.store.Del.TheVariants as del
 use Rattle.bcv_store.specs.Plans.{next_of, AreOthers}
 use Rattle.bcv_store.specs.Requests.{StoreDeletes}
 use Rattle.bcv_store.specs.StoreShown.{StoreTold, StoreShown}
-use Rattle.bcv_cleanup.specs.Released.{Answers, Finds, IsTestOf, has_more}
+use Rattle.bcv_cleanup.specs.Released.{RuleAnswers, FindsDead, IsTestOf, has_more}
 use Rattle.bcv_cleanup.specs.State.{State, taken_ids}
 
 -- ---- whatever the store
@@ -50,19 +50,19 @@ abbrev pub with_taken : State → publish.State → ℕ → List Id16 → Bool �
 with_taken s p moment ids more = record s { edit = edit.Sweep ids; publish = p; moment = Some moment; more = more }
 
 -- the manifest that the get kept, and what is taken of it: some ids at More, and none at Nothing, which only a first get answers
-pub record Keeps (answers : Answers) (moment : ℕ) (s : State) (p : publish.State) (ids : List Id16) (more : Bool) (t : State) : Type 0 where
+pub record KeepsRead (answers : RuleAnswers) (moment : ℕ) (s : State) (p : publish.State) (ids : List Id16) (more : Bool) (t : State) : Type 0 where
   pub read : Latest
   pub kept : p.latest ≡ Some read
-  pub finds : Finds answers moment read.manifest (taken_ids s) ids more
+  pub finds : FindsDead answers moment read.manifest (taken_ids s) ids more
   pub becomes : t ≡ with_taken s p moment ids more
 
-abbrev pub ReadLeaves : Answers → ℕ → State → publish.State → Work → State → Type 0
-ReadLeaves answers moment s p work.More t = (ids : List Id16) × (more : Bool) × (1 ≤ length ids) × Keeps answers moment s p ids more t
-ReadLeaves answers moment s p work.Nothing t = (taken_ids s ≡ []) × Keeps answers moment s p [] false t
+abbrev pub ReadLeaves : RuleAnswers → ℕ → State → publish.State → Work → State → Type 0
+ReadLeaves answers moment s p work.More t = (ids : List Id16) × (more : Bool) × (1 ≤ length ids) × KeepsRead answers moment s p ids more t
+ReadLeaves answers moment s p work.Nothing t = (taken_ids s ≡ []) × KeepsRead answers moment s p [] false t
 ReadLeaves answers moment s p result t = t ≡ with_moment s p moment
 
 -- the moment is read, where none is known, and then the manifest
-abbrev pub GetStep : Answers → Seen → State → Work → State → Type 0
+abbrev pub GetStep : RuleAnswers → Seen → State → Work → State → Type 0
 GetStep answers seen s work.ClockFault t = (s.moment ≡ None) × (t ≡ s)
 GetStep answers seen s result t =
     (moment : ℕ) × (p : publish.State) × IsMoment s.moment moment × GetLeaves seen s.edit s.publish (get_answer result) p × ReadLeaves answers moment s p result t
@@ -75,7 +75,7 @@ DeleteLeaves s work.NoMemory t = t ≡ s
 DeleteLeaves s _ t = ⊥
 
 -- where no manifest is kept it is read, else a block is deleted
-abbrev pub WorkLeaves : Answers → Option Latest → Seen → State → Work → State → Type 0
+abbrev pub WorkLeaves : RuleAnswers → Option Latest → Seen → State → Work → State → Type 0
 WorkLeaves answers None seen s result t = GetStep answers seen s result t
 WorkLeaves answers (Some l) seen s result t = DeleteLeaves s result t
 
@@ -95,10 +95,10 @@ WorkClockCause before now _ = now ≡ before
 -- ---- over any log that is told
 
 -- the manifest's get; without a moment there is none, and where memory ran out there may be none
-abbrev pub GetTold : StoreTold → StoreShown → StoreShown → Seen → State → Work → State → Type 0
-GetTold store old new seen s work.ClockFault t = new.log ≡ old.log
-GetTold store old new seen s work.NoMemory t = (others : List Entry) × AreOthers store.alone others × (new.log ≡ old.log ++ others)
-GetTold store old new seen s result t = ManifestGetTold store old new seen s.edit s.publish (get_answer result) t.publish
+abbrev pub ReadTold : StoreTold → StoreShown → StoreShown → Seen → State → Work → State → Type 0
+ReadTold store old new seen s work.ClockFault t = new.log ≡ old.log
+ReadTold store old new seen s work.NoMemory t = (others : List Entry) × AreOthers store.alone others × (new.log ≡ old.log ++ others)
+ReadTold store old new seen s result t = ManifestGetTold store old new seen s.edit s.publish (get_answer result) t.publish
 
 -- how the deletion of a block ends, after a log
 abbrev pub DeleteEnds : Outcome → List Entry → List Entry → Id16 → ℕ → Work → Type 0
@@ -108,7 +108,7 @@ DeleteEnds o log after i at work.NoMemory = after ≡ log
 DeleteEnds o log after i at _ = ⊥
 
 -- the block that is deleted next, and the moment by which it may be
-pub record IsNext (s : State) (i : Id16) (at : ℕ) : Type 0 where
+pub record IsNextBlock (s : State) (i : Id16) (at : ℕ) : Type 0 where
   pub id : slice_get (taken_ids s) s.deleted ≡ Some i
   pub moment : s.moment ≡ Some at
 
@@ -120,12 +120,12 @@ pub record DeletesBlock (store : StoreTold) (old new : StoreShown) (s : State) (
   pub next : store.plans → outcome ≡ next_of old.plan
   pub id : Id16
   pub at : ℕ
-  pub is_next : IsNext s id at
+  pub is_next : IsNextBlock s id at
   pub ends : DeleteEnds outcome (old.log ++ others) new.log id at result
 
 -- the manifest's get, or the deletion of the next block
 abbrev pub WorkTold : StoreTold → StoreShown → StoreShown → Option Latest → Seen → State → Work → State → Type 0
-WorkTold store old new None seen s result t = GetTold store old new seen s result t
+WorkTold store old new None seen s result t = ReadTold store old new seen s result t
 WorkTold store old new (Some l) seen s result t = DeletesBlock store old new s result
 
 -- ---- over a sound log
@@ -164,7 +164,7 @@ SoundReadEnds o log seen s result t = SoundGetEnds o log seen s.edit s.publish (
 -- how a step ends over a sound log: the manifest is read and nothing is appended, or the next block is deleted
 abbrev pub SoundWorkEnds : Outcome → List Entry → List Entry → Option Latest → Seen → State → Work → State → Type 0
 SoundWorkEnds o after own None seen s result t = (own ≡ []) × SoundReadEnds o after seen s result t
-SoundWorkEnds o after own (Some l) seen s result t = (i : Id16) × (at : ℕ) × IsNext s i at × SoundDeleteEnds o own i at result
+SoundWorkEnds o after own (Some l) seen s result t = (i : Id16) × (at : ℕ) × IsNextBlock s i at × SoundDeleteEnds o own i at result
 
 -- a step over a sound log that others grow by lawful entries: what was taken may still be deleted, or is
 pub record WorkSound (store : StoreTold) (mine : List Id16) (old new : StoreShown) (seen : Seen) (s : State) (result : Work) (t : State) : Type 0 where
@@ -201,7 +201,7 @@ TakenWork [] result = result ≡ work.Nothing
 TakenWork (i ∷ is) result = result ≡ work.More
 
 -- what is said of the manifest that a get kept, besides these ids; where it kept none, what was said before
-abbrev pub MoreOf : Answers → Option Latest → ℕ → List Id16 → Bool → Bool → Type 0
+abbrev pub MoreOf : RuleAnswers → Option Latest → ℕ → List Id16 → Bool → Bool → Type 0
 MoreOf answers None moment ids before more = more ≡ before
 MoreOf answers (Some l) moment ids before more =
     (released : Dead → Bool) → IsTestOf answers moment l.manifest.retention released → more ≡ has_more released ids l.manifest.dead
@@ -211,7 +211,7 @@ abbrev pub GetMade : StoreTold → StoreShown → StoreShown → Seen → State 
 GetMade store old new seen s result p = ManifestGets store old new seen s.edit s.publish (get_answer result) p ⊎ ((result ≡ work.NoMemory) × (new ≡ old))
 
 -- a get at a moment that is known
-pub record GetsAt (answers : Answers) (store : StoreTold) (old new : StoreShown) (moment : ℕ) (seen : Seen) (s : State) (result : Work) (t : State) : Type 0 where
+pub record GetsAt (answers : RuleAnswers) (store : StoreTold) (old new : StoreShown) (moment : ℕ) (seen : Seen) (s : State) (result : Work) (t : State) : Type 0 where
   pub publication : publish.State
   pub leaves : GetLeaves seen s.edit s.publish (get_answer result) publication
   pub keeps : ReadLeaves answers moment s publication result t
@@ -233,7 +233,7 @@ delete_work del.NoMemory = work.NoMemory
 pub record DeletesNext (store : StoreTold) (old new : StoreShown) (s : State) (result : Work) (t : State) : Type 0 where
   pub id : Id16
   pub at : ℕ
-  pub is_next : IsNext s id at
+  pub is_next : IsNextBlock s id at
   pub answer : Del
   pub deletes : StoreDeletes store old new (object.Block id) at answer
   pub is : result ≡ delete_work answer

@@ -3,17 +3,17 @@ use Rattle.std.specs.Prelude.{◌≡◌, ◌≤◌, ◌⊎◌, ℕ, true, false,
 use Rattle.bcv_base.specs.declared.id.Id16.{Id16}
 use Rattle.bcv_base.specs.declared.manifest.Dead.{Dead}
 use Rattle.bcv_dbmap.specs.Deletions.{most_cleaned}
-use Rattle.bcv_cleanup.specs.Released.{Answers}
+use Rattle.bcv_cleanup.specs.Released.{RuleAnswers}
 
 -- these are the ids of those entries of which the rule said yes
-abbrev pub Picks : Answers → ℕ → ℕ → List Dead → List Id16 → Type 0
+abbrev pub Picks : RuleAnswers → ℕ → ℕ → List Dead → List Id16 → Type 0
 Picks answers moment retention [] ids = ids ≡ []
 Picks answers moment retention (e ∷ es) ids =
     ((is : List Id16) × (ids ≡ e.id ∷ is) × answers e.stamp moment retention true × Picks answers moment retention es is)
     ⊎ (answers e.stamp moment retention false × Picks answers moment retention es ids)
 
 -- a walk that went past so many entries picked no more than may be taken, and stopped only there or at the end
-pub record PicksFirst (answers : Answers) (moment retention : ℕ) (dead : List Dead) (place : ℕ) (ids : List Id16) : Type 0 where
+pub record PicksFirst (answers : RuleAnswers) (moment retention : ℕ) (dead : List Dead) (place : ℕ) (ids : List Id16) : Type 0 where
   pub within : place ≤ length dead
   pub picks : Picks answers moment retention (take place dead) ids
   pub few : length ids ≤ most_cleaned

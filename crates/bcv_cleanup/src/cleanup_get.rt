@@ -6,7 +6,7 @@ ghost use Rattle.bcv_dbmap.specs.Applied.{swept_ids};
 ghost use Rattle.bcv_dbmap.specs.Deletions.{most_cleaned};
 ghost use Rattle.bcv_keeprule.specs.Retention.{IsKeepRule};
 ghost use Rattle.bcv_cleanup.specs.CleanupWork.{GetsAt, MoreOf, TakenWork};
-ghost use Rattle.bcv_cleanup.specs.Released.{Finds};
+ghost use Rattle.bcv_cleanup.specs.Released.{FindsDead};
 ghost use Rattle.bcv_cleanup.specs.State.{IsTask, taken_ids};
 
 use crate::cleanup::Cleanup;
@@ -97,7 +97,13 @@ impl Cleanup {
         ensures task { IsTask self.new }
     {
         let work = self.publish.get(alloc, store, seen, &self.edit);
-        self.more = more_of(self.publish.latest(), moment, rule, swept(&self.edit), self.more);
+        self.more = more_of(
+            self.publish.latest(),
+            moment,
+            rule,
+            swept(&self.edit),
+            self.more,
+        );
         work
     }
 }
@@ -124,7 +130,7 @@ fn taken_work(ids: &[Id16]) -> Work
     }
 }
 
-// Takes the first entries of a manifest that the rule releases, and answers whether it has more.
+// TakesDead the first entries of a manifest that the rule releases, and answers whether it has more.
 fn take_of<F: Fn(u64, u64, u64) -> bool>(
     manifest: &Manifest,
     moment: u64,
@@ -135,7 +141,7 @@ fn take_of<F: Fn(u64, u64, u64) -> bool>(
     requires rules { MeetsRules manifest.now }
     requires empty { ids.old.items ≡ [] }
     requires room { most_cleaned ≤ vec_capacity ids.old }
-    ensures finds { Finds (F.post rule.now.rule) moment manifest.now [] ids.new.items result }
+    ensures finds { FindsDead (F.post rule.now.rule) moment manifest.now [] ids.new.items result }
     ensures few { length ids.new.items ≤ most_cleaned }
     ensures none { ids.new.items ≡ [] → result ≡ false }
 {

@@ -1,5 +1,5 @@
 //! Laws of cleanups. Each function does nothing: its clause is the law, for proofs to cite.
-ghost use Rattle.bcv_cleanup.specs.CleanupPut.{SweepIsTheEdit, TakenStays};
+ghost use Rattle.bcv_cleanup.specs.CleanupPut.{NothingIsComplete, SweepIsTheEdit, TakenStays};
 
 /// A cleanup publishes the machine's sweep. A client says by it which edit its put is.
 pub fn sweep_is_the_edit()
@@ -10,4 +10,9 @@ pub fn sweep_is_the_edit()
 /// it what it knows of its cleanup.
 pub fn taken_stays()
     ensures { TakenStays }
+{}
+
+/// A cleanup that answers `Nothing` is complete: there was nothing to take, and there is no more.
+pub fn nothing_is_complete()
+    ensures { NothingIsComplete }
 {}

@@ -19,4 +19,4 @@ mod laws;
 mod released;
 
 pub use cleanup::Cleanup;
-pub use laws::{sweep_is_the_edit, taken_stays};
+pub use laws::{nothing_is_complete, sweep_is_the_edit, taken_stays};

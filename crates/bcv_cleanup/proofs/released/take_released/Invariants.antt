@@ -1,4 +1,4 @@
-use Rattle.std.proofs.Common.{◌≡◌, ◌≤◌, length, take, vec_capacity}
+use Rattle.std.proofs.Common.{◌≤◌, length, take, vec_capacity}
 use Rattle.bcv_dbmap.specs.Deletions.{most_cleaned}
 use Rattle.bcv_cleanup.specs.Picks.{Picks}
 use Rattle.bcv_cleanup.proofs.released.take_released.Given as goal

@@ -1,4 +1,4 @@
-use Rattle.std.proofs.Common.{◌≡◌, ◌∙◌, Bool, MatchOption, sym, ap, subst}
+use Rattle.std.proofs.Common.{◌∙◌, Bool, MatchOption, sym, ap, subst}
 use Rattle.bcv_cleanup.specs.declared.cleanup.Cleanup.TheInside.{Inside}
 use Rattle.bcv_cleanup.specs.CleanupPut.{CleansAll}
 use Rattle.bcv_cleanup.specs.State.{State}

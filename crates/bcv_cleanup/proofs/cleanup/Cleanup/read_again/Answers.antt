@@ -1,4 +1,4 @@
-use Rattle.std.proofs.Common.{◌≡◌, ◌∙◌, ◌≤◌, List, length, Option, option_copied, sym, ap, subst}
+use Rattle.std.proofs.Common.{◌∙◌, ◌≤◌, List, length, Option, option_copied, sym, ap, subst}
 use Rattle.bcv_base.specs.declared.id.Id16.{Id16}
 use Rattle.bcv_base.specs.declared.seen.Latest.{Latest}
 use Rattle.bcv_cleanup.specs.declared.cleanup.Cleanup.TheInside.{Inside}

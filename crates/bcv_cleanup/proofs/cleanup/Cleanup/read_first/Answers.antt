@@ -1,12 +1,10 @@
-use Rattle.std.proofs.Common.{◌≡◌, ◌∙◌, ◌≤◌, Bool, false, List, [], length, Option, Some, None, option_copied, sym, ap, subst}
+use Rattle.std.proofs.Common.{◌≡◌, ◌∙◌, ◌≤◌, List, length, Some, None, option_copied, sym, ap, subst}
 use Rattle.bcv_base.specs.declared.id.Id16.{Id16}
-use Rattle.bcv_base.specs.declared.seen.Latest.{Latest}
 use Rattle.bcv_dbmap.specs.declared.plan.EditPlan.TheVariants as edit
 use Rattle.bcv_dbmap.specs.Deletions.{most_cleaned}
 use Rattle.bcv_cleanup.specs.declared.cleanup.Cleanup.TheInside.{Inside}
 use Rattle.bcv_cleanup.specs.CleanupWork.{GetsAt, TakenWork}
-use Rattle.bcv_cleanup.specs.Released.{Finds}
-use Rattle.bcv_cleanup.specs.State.{State, IsTask, taken_ids}
+use Rattle.bcv_cleanup.specs.State.{State, taken_ids}
 use Rattle.bcv_cleanup.proofs.Cleanups.{task_first}
 use Rattle.bcv_cleanup.proofs.GetLaws.{first_gets, kept_one, none_gets}
 use Rattle.bcv_cleanup.proofs.cleanup.Cleanup.read_first.Goals as goal
