@@ -14,4 +14,5 @@ requests_of s = manifest_requests s.publish.latest
 abbrev pub IsBelow : State → State → Type 0
 IsBelow new old =
     (refusals_of new < refusals_of old)
-    ⊎ ((refusals_of new ≡ refusals_of old) × ((requests_of new < requests_of old) ⊎ ((requests_of new ≡ requests_of old) × (left_of new < left_of old))))
+    ⊎ ((refusals_of new ≡ refusals_of old)
+    × ((requests_of new < requests_of old) ⊎ ((requests_of new ≡ requests_of old) × (left_of new < left_of old))))

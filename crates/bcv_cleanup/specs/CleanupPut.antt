@@ -32,11 +32,13 @@ behind_put s p end = record s { publish = p; published = is_published end }
 
 -- whatever the store: the publication's put of the sweep, and nothing else of the cleanup has changed
 abbrev pub PutLeaves : ℕ → State → Latest → PutEnd → State → Type 0
-PutLeaves moment old read result new = (p : publish.State) × publishing.PutLeaves old.edit moment old.publish read result p × (new ≡ behind_put old p result)
+PutLeaves moment old read result new =
+    (p : publish.State) × publishing.PutLeaves old.edit moment old.publish read result p × (new ≡ behind_put old p result)
 
 -- ---- what is published
 
--- the publication may come after a log: what was read is there, its id is a fresh one of mine, and what it sweeps was deleted
+-- the publication may come after a log: what was read is there, its id is a fresh one of mine, and what it sweeps was
+-- deleted
 pub record MayPut (mine : List Id16) (log : List Entry) (s : State) (read : Latest) : Type 0 where
   pub kept : IsKept log read
   pub writer : has_id s.publish.writer mine ≡ true
@@ -64,13 +66,18 @@ SaysMore released read s = s.more ≡ has_more released (taken_ids s) read.dead
 
 -- at its publication the cleanup is complete
 abbrev pub IsComplete : (Dead → Bool) → Manifest → PutEnd → State → Type 0
-IsComplete released first (put.Published n) s = MatchOption s.publish.latest ⊥ (λ l. CleanedAll released first l.manifest (cleaned released first.dead) s.more)
+IsComplete released first (put.Published n) s =
+    MatchOption s.publish.latest ⊥ (λ l. CleanedAll released first l.manifest (cleaned released first.dead) s.more)
 IsComplete released first _ s = Unit {0}
 
--- where it took all of the manifest that was read first, and says what the one that was read last has besides, it is complete
+-- where it took all of the manifest that was read first, and says what the one that was read last has besides, it is
+-- complete
 abbrev pub CleansAll : State → Latest → PutEnd → State → Type 0
-CleansAll old read result new = (released : Dead → Bool) (first : Manifest) → TookAll released first old → SaysMore released read.manifest old → IsComplete released first result new
+CleansAll old read result new =
+    (released : Dead → Bool) (first : Manifest) → TookAll released first old → SaysMore released read.manifest old
+    → IsComplete released first result new
 
 -- where the first manifest had nothing to take, the cleanup is complete without a publication
 abbrev pub NothingIsComplete : Type 0
-NothingIsComplete = (released : Dead → Bool) (read : Manifest) → [] ≡ ids_of (cleaned released read.dead) → CleanedAll released read read [] false
+NothingIsComplete =
+    (released : Dead → Bool) (read : Manifest) → [] ≡ ids_of (cleaned released read.dead) → CleanedAll released read read [] false

@@ -49,15 +49,18 @@ with_moment s p moment = record s { publish = p; moment = Some moment }
 abbrev pub with_taken : State → publish.State → ℕ → List Id16 → Bool → State
 with_taken s p moment ids more = record s { edit = edit.Sweep ids; publish = p; moment = Some moment; more = more }
 
--- the manifest that the get kept, and what is taken of it: some ids at More, and none at Nothing, which only a first get answers
-pub record KeepsRead (answers : RuleAnswers) (moment : ℕ) (s : State) (p : publish.State) (ids : List Id16) (more : Bool) (t : State) : Type 0 where
+-- the manifest that the get kept, and what is taken of it
+pub record KeepsRead (answers : RuleAnswers) (moment : ℕ) (s : State) (p : publish.State) (ids : List Id16) (more : Bool)
+    (t : State) : Type 0 where
   pub read : Latest
   pub kept : p.latest ≡ Some read
   pub finds : FindsDead answers moment read.manifest (taken_ids s) ids more
   pub becomes : t ≡ with_taken s p moment ids more
 
+-- some ids are taken at More, and none at Nothing, which only a first get answers
 abbrev pub ReadLeaves : RuleAnswers → ℕ → State → publish.State → Work → State → Type 0
-ReadLeaves answers moment s p work.More t = (ids : List Id16) × (more : Bool) × (1 ≤ length ids) × KeepsRead answers moment s p ids more t
+ReadLeaves answers moment s p work.More t =
+    (ids : List Id16) × (more : Bool) × (1 ≤ length ids) × KeepsRead answers moment s p ids more t
 ReadLeaves answers moment s p work.Nothing t = (taken_ids s ≡ []) × KeepsRead answers moment s p [] false t
 ReadLeaves answers moment s p result t = t ≡ with_moment s p moment
 
@@ -65,7 +68,8 @@ ReadLeaves answers moment s p result t = t ≡ with_moment s p moment
 abbrev pub GetStep : RuleAnswers → Seen → State → Work → State → Type 0
 GetStep answers seen s work.ClockFault t = (s.moment ≡ None) × (t ≡ s)
 GetStep answers seen s result t =
-    (moment : ℕ) × (p : publish.State) × IsMoment s.moment moment × GetLeaves seen s.edit s.publish (get_answer result) p × ReadLeaves answers moment s p result t
+    (moment : ℕ) × (p : publish.State) × IsMoment s.moment moment
+    × GetLeaves seen s.edit s.publish (get_answer result) p × ReadLeaves answers moment s p result t
 
 -- a deletion: one more was deleted, or nothing has changed
 abbrev pub DeleteLeaves : State → Work → State → Type 0
@@ -97,8 +101,10 @@ WorkClockCause before now _ = now ≡ before
 -- the manifest's get; without a moment there is none, and where memory ran out there may be none
 abbrev pub ReadTold : StoreTold → StoreShown → StoreShown → Seen → State → Work → State → Type 0
 ReadTold store old new seen s work.ClockFault t = new.log ≡ old.log
-ReadTold store old new seen s work.NoMemory t = (others : List Entry) × AreOthers store.alone others × (new.log ≡ old.log ++ others)
-ReadTold store old new seen s result t = ManifestGetTold store old new seen s.edit s.publish (get_answer result) t.publish
+ReadTold store old new seen s work.NoMemory t =
+    (others : List Entry) × AreOthers store.alone others × (new.log ≡ old.log ++ others)
+ReadTold store old new seen s result t =
+    ManifestGetTold store old new seen s.edit s.publish (get_answer result) t.publish
 
 -- how the deletion of a block ends, after a log
 abbrev pub DeleteEnds : Outcome → List Entry → List Entry → Id16 → ℕ → Work → Type 0
@@ -164,10 +170,12 @@ SoundReadEnds o log seen s result t = SoundGetEnds o log seen s.edit s.publish (
 -- how a step ends over a sound log: the manifest is read and nothing is appended, or the next block is deleted
 abbrev pub SoundWorkEnds : Outcome → List Entry → List Entry → Option Latest → Seen → State → Work → State → Type 0
 SoundWorkEnds o after own None seen s result t = (own ≡ []) × SoundReadEnds o after seen s result t
-SoundWorkEnds o after own (Some l) seen s result t = (i : Id16) × (at : ℕ) × IsNextBlock s i at × SoundDeleteEnds o own i at result
+SoundWorkEnds o after own (Some l) seen s result t =
+    (i : Id16) × (at : ℕ) × IsNextBlock s i at × SoundDeleteEnds o own i at result
 
 -- a step over a sound log that others grow by lawful entries: what was taken may still be deleted, or is
-pub record WorkSound (store : StoreTold) (mine : List Id16) (old new : StoreShown) (seen : Seen) (s : State) (result : Work) (t : State) : Type 0 where
+pub record WorkSound (store : StoreTold) (mine : List Id16) (old new : StoreShown) (seen : Seen) (s : State) (result : Work)
+    (t : State) : Type 0 where
   pub growth : RequestGrowth store.alone mine old.log new.log
   pub outcome : Outcome
   pub next : store.plans → outcome ≡ next_of old.plan
@@ -182,9 +190,10 @@ WorkTakes store old new work.ClockFault = new ≡ old
 WorkTakes store old new work.NoMemory = MayTakeOutcome store old new
 WorkTakes store old new _ = TakesOutcome store old new
 
--- what a step says of the store and of the clock, and its causes: what the log has then where the store tells it, and that
--- it is sound where it was
-pub record TaskWorks (store : StoreTold) (old new : StoreShown) (clock later_clock : ClockShown) (seen : Seen) (s : State) (result : Work) (t : State) : Type 0 where
+-- what a step says of the store and of the clock, and its causes: what the log has then where the store tells it, and
+-- that it is sound where it was
+pub record TaskWorks (store : StoreTold) (old new : StoreShown) (clock later_clock : ClockShown) (seen : Seen) (s : State)
+    (result : Work) (t : State) : Type 0 where
   pub asked : AsksClock s.moment clock later_clock result t.moment
   pub told : store.tells → WorkTold store old new s.publish.latest seen s result t
   pub sound : OverSoundLog store old new (λ mine. HasTaken old.log s → WorkSound store mine old new seen s result t)
@@ -204,14 +213,17 @@ TakenWork (i ∷ is) result = result ≡ work.More
 abbrev pub MoreOf : RuleAnswers → Option Latest → ℕ → List Id16 → Bool → Bool → Type 0
 MoreOf answers None moment ids before more = more ≡ before
 MoreOf answers (Some l) moment ids before more =
-    (released : Dead → Bool) → IsTestOf answers moment l.manifest.retention released → more ≡ has_more released ids l.manifest.dead
+    (released : Dead → Bool) → IsTestOf answers moment l.manifest.retention released
+    → more ≡ has_more released ids l.manifest.dead
 
 -- the get was made, or memory ran out before it
 abbrev pub GetMade : StoreTold → StoreShown → StoreShown → Seen → State → Work → publish.State → Type 0
-GetMade store old new seen s result p = ManifestGets store old new seen s.edit s.publish (get_answer result) p ⊎ ((result ≡ work.NoMemory) × (new ≡ old))
+GetMade store old new seen s result p =
+    ManifestGets store old new seen s.edit s.publish (get_answer result) p ⊎ ((result ≡ work.NoMemory) × (new ≡ old))
 
 -- a get at a moment that is known
-pub record GetsAt (answers : RuleAnswers) (store : StoreTold) (old new : StoreShown) (moment : ℕ) (seen : Seen) (s : State) (result : Work) (t : State) : Type 0 where
+pub record GetsAt (answers : RuleAnswers) (store : StoreTold) (old new : StoreShown) (moment : ℕ) (seen : Seen) (s : State)
+    (result : Work) (t : State) : Type 0 where
   pub publication : publish.State
   pub leaves : GetLeaves seen s.edit s.publish (get_answer result) publication
   pub keeps : ReadLeaves answers moment s publication result t

@@ -9,11 +9,13 @@ use Rattle.bcv_cleanup.specs.Released.{RuleAnswers}
 abbrev pub Picks : RuleAnswers → ℕ → ℕ → List Dead → List Id16 → Type 0
 Picks answers moment retention [] ids = ids ≡ []
 Picks answers moment retention (e ∷ es) ids =
-    ((is : List Id16) × (ids ≡ e.id ∷ is) × answers e.stamp moment retention true × Picks answers moment retention es is)
+    ((is : List Id16) × (ids ≡ e.id ∷ is) × answers e.stamp moment retention true
+    × Picks answers moment retention es is)
     ⊎ (answers e.stamp moment retention false × Picks answers moment retention es ids)
 
 -- a walk that went past so many entries picked no more than may be taken, and stopped only there or at the end
-pub record PicksFirst (answers : RuleAnswers) (moment retention : ℕ) (dead : List Dead) (place : ℕ) (ids : List Id16) : Type 0 where
+pub record PicksFirst (answers : RuleAnswers) (moment retention : ℕ) (dead : List Dead) (place : ℕ)
+    (ids : List Id16) : Type 0 where
   pub within : place ≤ length dead
   pub picks : Picks answers moment retention (take place dead) ids
   pub few : length ids ≤ most_cleaned

@@ -11,8 +11,9 @@ use Rattle.bcv_dbmap.specs.Deletions.{most_cleaned}
 use Rattle.bcv_publish.specs.State.{new_publish}
 use Rattle.bcv_publish.specs.State as publish
 
--- a cleanup: the edit, which sweeps the ids that were taken; its publication; the moment, once the clock was read; how many of
--- the ids were deleted; whether the manifest that was read last has a further entry; and whether the edit was published
+-- a cleanup: the edit, which sweeps the ids that were taken; its publication; the moment, once the clock was read; how
+-- many of the ids were deleted; whether the manifest that was read last has a further entry; and whether the edit was
+-- published
 pub record State : Type 0 where
   pub edit : EditPlan
   pub publish : publish.State
@@ -22,7 +23,14 @@ pub record State : Type 0 where
   pub published : Bool
 
 abbrev pub new_cleanup : Id16 → Id16 → State
-new_cleanup writer id = record { edit = edit.Sweep []; publish = new_publish writer id; moment = None; deleted = 0; more = false; published = false }
+new_cleanup writer id = record {
+  edit = edit.Sweep [];
+  publish = new_publish writer id;
+  moment = None;
+  deleted = 0;
+  more = false;
+  published = false;
+}
 
 -- the ids that were taken
 abbrev pub taken_ids : State → List Id16
@@ -43,7 +51,8 @@ deletions_left (Some l) ids deleted = length ids - deleted
 
 -- after a publication there is none
 abbrev pub left_of : State → ℕ
-left_of s = if s.published then 0 else deletions_left s.publish.latest (taken_ids s) s.deleted + manifest_requests s.publish.latest
+left_of s =
+    if s.published then 0 else deletions_left s.publish.latest (taken_ids s) s.deleted + manifest_requests s.publish.latest
 
 -- a manifest is kept and all entries were deleted
 abbrev pub is_ready : State → Bool
@@ -80,8 +89,8 @@ abbrev pub HasBegun : Option Latest → List Id16 → Type 0
 HasBegun None ids = Unit {0}
 HasBegun (Some l) ids = 1 ≤ length ids
 
--- what a caller keeps of a cleanup from call to call: it is one, it was not published, fewer than eight puts were refused, and
--- after the first get it has taken entries
+-- what a caller keeps of a cleanup from call to call: it is one, it was not published, fewer than eight puts were refused,
+-- and after the first get it has taken entries
 pub record IsRunning (s : State) : Type 0 where
   pub task : IsTask s
   pub waits : s.published ≡ false

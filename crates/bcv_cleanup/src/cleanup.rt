@@ -1,6 +1,15 @@
 ghost use Rattle.std.specs.Prelude.{◌≡◌, ◌≤◌, [], length};
 ghost use Rattle.std.specs.Option.{option_copied};
-ghost use Rattle.bcv_cleanup.specs.State.{IsRunning, IsTask, deletions_left, is_ready, left_of, manifest_requests, new_cleanup, taken_ids};
+ghost use Rattle.bcv_cleanup.specs.State.{
+  IsRunning,
+  IsTask,
+  deletions_left,
+  is_ready,
+  left_of,
+  manifest_requests,
+  new_cleanup,
+  taken_ids,
+};
 
 use crate::released::MOST_CLEANED;
 use bcv_base::{Id16, Latest, Seq};
@@ -13,8 +22,8 @@ use std::marker::Model;
 /// `ready`, and then `put`. After a publication, and where there is nothing to delete, there is neither.
 #[derive(Drop)]
 pub struct Cleanup {
-    // The sweep of the ids that were taken; the moment by which they are deleted; how many of them were; and whether the
-    // manifest that was read last has a further entry to be deleted.
+    // The sweep of the ids that were taken, its publication, the moment by which they are deleted, how many of them were,
+    // whether the manifest that was read last has a further entry to be deleted, and whether the sweep was published.
     pub(crate) edit: EditPlan,
     pub(crate) publish: Publish,
     pub(crate) moment: Option<u64>,
@@ -28,9 +37,23 @@ impl Model for Cleanup {
 
     ghost Value = { State };
 
-    ghost view = { λ t. record { edit = t.edit; publish = t.publish; moment = t.moment; deleted = t.deleted; more = t.more; published = t.published } };
+    ghost view = { λ t. record {
+      edit = t.edit;
+      publish = t.publish;
+      moment = t.moment;
+      deleted = t.deleted;
+      more = t.more;
+      published = t.published;
+    } };
 
-    ghost invariant = { λ t. IsTask (record { edit = t.edit; publish = t.publish; moment = t.moment; deleted = t.deleted; more = t.more; published = t.published }) };
+    ghost invariant = { λ t. IsTask (record {
+      edit = t.edit;
+      publish = t.publish;
+      moment = t.moment;
+      deleted = t.deleted;
+      more = t.more;
+      published = t.published;
+    }) };
 }
 
 impl Cleanup {
@@ -51,8 +74,8 @@ impl Cleanup {
         }
     }
 
-    /// How many requests are left, where none is refused. Before the manifest is read, it counts as many entries as may be
-    /// taken.
+    /// How many requests are left, where none is refused. Before the manifest is read, it counts as many entries as may
+    /// be taken.
     pub fn left(&self) -> u32
         ensures { result ≡ left_of self.now }
     {
@@ -92,8 +115,8 @@ impl Cleanup {
         self.publish.latest().is_some() && self.left() == 1
     }
 
-    /// How many entries were taken, and whether the manifest that was read last has a further one that the rule releases
-    /// at the cleanup's moment.
+    /// How many entries were taken, and whether the manifest that was read last has a further one that the rule
+    /// releases at the cleanup's moment.
     pub fn found(&self) -> (u32, bool)
         ensures count { result.0 ≡ length (taken_ids self.now) }
         ensures more { result.1 ≡ self.now.more }

@@ -12,14 +12,15 @@ use bcv_store::Store;
 use std::alloc::Global;
 
 impl Cleanup {
-    /// Publishes the sweep over the manifest that is kept, where it is still the one that was read. This is one request to
-    /// the store, or none where memory runs out before it. After `Refused` the manifest is read again, and nothing is
-    /// deleted again; after `Published` and `Contended` the task has ended. `Unknown` leaves the task as it was; the put
-    /// must not be tried again before it is known what became of it.
+    /// Publishes the sweep over the manifest that is kept, where it is still the one that was read. This is one request
+    /// to the store, or none where memory runs out before it. After `Refused` the manifest is read again, and nothing
+    /// is deleted again; after `Published` and `Contended` the task has ended. `Unknown` leaves the task as it was; the
+    /// put must not be tried again before it is known what became of it.
     pub fn put<S: Store>(&mut self, alloc: Global, store: &mut S, moment: u64) -> PutEnd
         requires running { IsRunning self.old }
         requires ready { is_ready self.old ≡ true }
-        ensures leaves { MatchOption self.old.publish.latest ⊥ (λ read. PutLeaves moment self.old read result self.new) }
+        ensures leaves { MatchOption self.old.publish.latest ⊥ (λ read.
+            PutLeaves moment self.old read result self.new) }
         ensures puts { MatchOption self.old.publish.latest ⊥ (λ read.
             ManifestPuts S.told (S.shown store.old) (S.shown store.new)
             self.old.publish read self.old.edit moment result self.new.publish) }

@@ -14,9 +14,10 @@ use std::alloc::Global;
 
 impl Cleanup {
     /// Gets the manifest, where none is kept, or else deletes the next block that was taken. The clock is asked for the
-    /// cleanup's moment before the first get, and never again. This is one request to the store, or none where no moment
-    /// or no memory was had for it. `Nothing` comes where the first manifest has no entry that the rule releases at that
-    /// moment. Every answer but `More` ends the task; what was deleted stays on the delete list for a later cleanup.
+    /// cleanup's moment before the first get, and never again. This is one request to the store, or none where no
+    /// moment or no memory was had for it. `Nothing` comes where the first manifest has no entry that the rule releases
+    /// at that moment. Every answer but `More` ends the task; what was deleted stays on the delete list for a later
+    /// cleanup, which deletes it again.
     pub fn work<S: Store, C: Clock, F: Fn(u64, u64, u64) -> bool>(
         &mut self,
         alloc: Global,

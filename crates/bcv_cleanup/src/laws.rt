@@ -6,8 +6,8 @@ pub fn sweep_is_the_edit()
     ensures { SweepIsTheEdit }
 {}
 
-/// What a cleanup has taken may still be deleted, and what it has deleted is so, whatever is appended. A client keeps by
-/// it what it knows of its cleanup.
+/// What a cleanup has taken may still be deleted, and what it has deleted is so, whatever is appended. A client keeps
+/// by it what it knows of its cleanup.
 pub fn taken_stays()
     ensures { TakenStays }
 {}
