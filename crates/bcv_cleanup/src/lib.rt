@@ -20,3 +20,6 @@ mod released;
 
 pub use cleanup::Cleanup;
 pub use laws::{nothing_is_complete, sweep_is_the_edit, taken_stays};
+
+#[cfg(test)]
+mod tests;

@@ -1,0 +1,123 @@
+ghost use Rattle.bcv_keeprule.specs.Retention.{IsKeepRule};
+ghost use Rattle.bcv_cleanup.specs.State.{IsRunning};
+
+use super::*;
+use bcv_base::{Id16, ObjName, Seen, SetClock};
+use bcv_keeprule::{KeepRule, retention_passed};
+use bcv_memstore::MemStore;
+use bcv_publish::{PutEnd, Work};
+use bcv_store::{Cond, Put, Store};
+use std::alloc::{AllocError, Global};
+use std::test::Fail;
+
+const SEEN: Seen = Seen {
+    block: None,
+    number: 0,
+};
+
+fn id(number: u8) -> Id16 {
+    Id16([number; 16])
+}
+
+// A first manifest that keeps dead blocks for 100 seconds, with three dead blocks of these stamps.
+fn manifest_text(alloc: Global, stamps: [u64; 3]) -> Result<Vec<u8>, AllocError> {
+    let mut text = Vec::from_slice(alloc, b"BCVMAN01")?;
+    text.extend_from_slice(&1u64.to_be_bytes())?;
+    text.extend_from_slice(&0u64.to_be_bytes())?;
+    text.extend_from_slice(&512u32.to_be_bytes())?;
+    text.extend_from_slice(&100u64.to_be_bytes())?;
+    text.extend_from_slice(&id(3).0)?;
+    text.extend_from_slice(&1u32.to_be_bytes())?;
+    text.extend_from_slice(&id(1).0)?;
+    text.extend_from_slice(&id(3).0)?;
+    text.extend_from_slice(&1u64.to_be_bytes())?;
+    text.extend_from_slice(&0u32.to_be_bytes())?;
+    text.extend_from_slice(&3u32.to_be_bytes())?;
+    let mut number = 10;
+    for stamp in stamps {
+        text.extend_from_slice(&id(number).0)?;
+        text.extend_from_slice(&stamp.to_be_bytes())?;
+        number = number.saturating_add(1);
+    }
+    Ok(text)
+}
+
+// A store with that manifest.
+fn container(alloc: Global, stamps: [u64; 3]) -> Result<MemStore, Fail> {
+    let text = manifest_text(alloc, stamps)?;
+    let mut store = MemStore::new(alloc);
+    let Put::Stored(_) = store.put(alloc, &ObjName::Manifest, Cond::Absent, &text) else {
+        return Err(Fail::from("the manifest is stored"));
+    };
+    Ok(store)
+}
+
+// Makes a cleanup's requests up to its end.
+fn run<F: Fn(u64, u64, u64) -> bool>(
+    alloc: Global,
+    cleanup: &mut Cleanup,
+    store: &mut MemStore,
+    clock: &mut SetClock,
+    rule: &KeepRule<F>,
+) -> Result<PutEnd, Work>
+    requires running { IsRunning cleanup.old }
+    requires rule { IsKeepRule (F.pre rule.now.rule) (F.post rule.now.rule) }
+{
+    for _ in 0..66 {
+        if cleanup.ready() {
+            let end = cleanup.put(alloc, store, 200);
+            if end != PutEnd::Refused {
+                return Ok(end);
+            }
+            continue;
+        }
+        let work = cleanup.work(alloc, store, clock, &SEEN, rule);
+        if work != Work::More {
+            return Err(work);
+        }
+    }
+    Err(Work::More)
+}
+
+#[test]
+fn two_at_once(rt: HostRuntime) -> Result<(), Fail> {
+    let alloc = rt.alloc();
+    let mut store = container(alloc, [0, 5, 6])?;
+    let mut clock = SetClock::new(99);
+    let rule = KeepRule::new(retention_passed);
+    let mut early = Cleanup::new(alloc, id(1), id(6));
+    let end = run(alloc, &mut early, &mut store, &mut clock, &rule);
+    assert_eq!(rt; end, Err(Work::Nothing));
+    clock.set(105);
+    let mut first = Cleanup::new(alloc, id(1), id(4));
+    assert_eq!(rt; first.left(), 66);
+    if first.work(alloc, &mut store, &mut clock, &SEEN, &rule) != Work::More {
+        return Err(Fail::from("entries are taken"));
+    }
+    assert_eq!(rt; first.left(), 3);
+    let mut second = Cleanup::new(alloc, id(2), id(5));
+    let end = run(alloc, &mut second, &mut store, &mut clock, &rule);
+    assert_eq!(rt; end, Ok(PutEnd::Published(2)));
+    clock.set(106);
+    let end = run(alloc, &mut first, &mut store, &mut clock, &rule);
+    assert_eq!(rt; end, Ok(PutEnd::Published(3)));
+    assert_eq!(rt; first.found(), (2, false));
+    assert_eq!(rt; store.log_len(), 7);
+    let latest = first.into_latest().ok_or("the manifest is kept")?;
+    assert_eq!(rt; latest.manifest.dead.items().len(), 1);
+    Ok(())
+}
+
+#[test]
+fn a_rule_that_keeps_all(rt: HostRuntime) -> Result<(), Fail> {
+    let alloc = rt.alloc();
+    let mut store = container(alloc, [0, 5, 6])?;
+    let mut clock = SetClock::new(u64::MAX);
+    let rule = KeepRule::new(|_: u64, _: u64, _: u64| false);
+    let mut cleanup = Cleanup::new(alloc, id(1), id(4));
+    let end = run(alloc, &mut cleanup, &mut store, &mut clock, &rule);
+    assert_eq!(rt; end, Err(Work::Nothing));
+    assert_eq!(rt; cleanup.found(), (0, false));
+    assert_eq!(rt; store.log_len(), 1);
+    Ok(())
+}
