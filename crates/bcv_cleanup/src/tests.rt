@@ -1,5 +1,6 @@
+ghost use Rattle.std.specs.Prelude.{◌≡◌, false};
 ghost use Rattle.bcv_keeprule.specs.Retention.{IsKeepRule};
-ghost use Rattle.bcv_cleanup.specs.State.{IsRunning};
+ghost use Rattle.bcv_cleanup.specs.State.{IsRunning, is_ready};
 
 use super::*;
 use bcv_base::{Id16, ObjName, Seen, SetClock};
@@ -79,45 +80,79 @@ fn run<F: Fn(u64, u64, u64) -> bool>(
     Err(Work::More)
 }
 
-#[test]
-fn two_at_once(rt: HostRuntime) -> Result<(), Fail> {
-    let alloc = rt.alloc();
+// How a cleanup at a moment ends, what it found, and how many entries the log has then.
+fn ends<F: Fn(u64, u64, u64) -> bool>(
+    alloc: Global,
+    moment: u64,
+    rule: &KeepRule<F>,
+) -> Result<(Result<PutEnd, Work>, (u32, bool), usize), Fail>
+    requires { IsKeepRule (F.pre rule.now.rule) (F.post rule.now.rule) }
+{
     let mut store = container(alloc, [0, 5, 6])?;
-    let mut clock = SetClock::new(99);
+    let mut clock = SetClock::new(moment);
+    let mut cleanup = Cleanup::new(alloc, id(1), id(4));
+    let end = run(alloc, &mut cleanup, &mut store, &mut clock, rule);
+    Ok((end, cleanup.found(), store.log_len()))
+}
+
+#[test]
+fn within_the_retention_and_past_it(rt: HostRuntime) -> Result<(), Fail> {
+    let alloc = rt.alloc();
     let rule = KeepRule::new(retention_passed);
-    let mut early = Cleanup::new(alloc, id(1), id(6));
-    let end = run(alloc, &mut early, &mut store, &mut clock, &rule);
-    assert_eq!(rt; end, Err(Work::Nothing));
-    clock.set(105);
-    let mut first = Cleanup::new(alloc, id(1), id(4));
-    assert_eq!(rt; first.left(), 66);
-    if first.work(alloc, &mut store, &mut clock, &SEEN, &rule) != Work::More {
-        return Err(Fail::from("entries are taken"));
-    }
-    assert_eq!(rt; first.left(), 3);
-    let mut second = Cleanup::new(alloc, id(2), id(5));
-    let end = run(alloc, &mut second, &mut store, &mut clock, &rule);
-    assert_eq!(rt; end, Ok(PutEnd::Published(2)));
-    clock.set(106);
-    let end = run(alloc, &mut first, &mut store, &mut clock, &rule);
-    assert_eq!(rt; end, Ok(PutEnd::Published(3)));
-    assert_eq!(rt; first.found(), (2, false));
-    assert_eq!(rt; store.log_len(), 7);
-    let latest = first.into_latest().ok_or("the manifest is kept")?;
-    assert_eq!(rt; latest.manifest.dead.items().len(), 1);
+    assert_eq!(rt;
+        ends(alloc, 99, &rule)?,
+        (Err(Work::Nothing), (0, false), 1)
+    );
+    assert_eq!(rt;
+        ends(alloc, 105, &rule)?,
+        (Ok(PutEnd::Published(2)), (2, false), 4)
+    );
     Ok(())
 }
 
 #[test]
 fn a_rule_that_keeps_all(rt: HostRuntime) -> Result<(), Fail> {
     let alloc = rt.alloc();
-    let mut store = container(alloc, [0, 5, 6])?;
-    let mut clock = SetClock::new(u64::MAX);
     let rule = KeepRule::new(|_: u64, _: u64, _: u64| false);
-    let mut cleanup = Cleanup::new(alloc, id(1), id(4));
-    let end = run(alloc, &mut cleanup, &mut store, &mut clock, &rule);
-    assert_eq!(rt; end, Err(Work::Nothing));
-    assert_eq!(rt; cleanup.found(), (0, false));
-    assert_eq!(rt; store.log_len(), 1);
+    assert_eq!(rt;
+        ends(alloc, u64::MAX, &rule)?,
+        (Err(Work::Nothing), (0, false), 1)
+    );
+    Ok(())
+}
+
+// Two cleanups, of which one is cut in two by the other.
+fn interleaved<F: Fn(u64, u64, u64) -> bool>(
+    alloc: Global,
+    first: &mut Cleanup,
+    second: &mut Cleanup,
+    store: &mut MemStore,
+    rule: &KeepRule<F>,
+) -> Option<(PutEnd, PutEnd)>
+    requires first { IsRunning first.old }
+    requires unread { is_ready first.old ≡ false }
+    requires second { IsRunning second.old }
+    requires rule { IsKeepRule (F.pre rule.now.rule) (F.post rule.now.rule) }
+{
+    let mut clock = SetClock::new(105);
+    if first.work(alloc, store, &mut clock, &SEEN, rule) != Work::More {
+        return None;
+    }
+    let earlier = run(alloc, second, store, &mut clock, rule).ok()?;
+    let later = run(alloc, first, store, &mut clock, rule).ok()?;
+    Some((earlier, later))
+}
+
+#[test]
+fn two_at_once(rt: HostRuntime) -> Result<(), Fail> {
+    let alloc = rt.alloc();
+    let mut store = container(alloc, [0, 5, 6])?;
+    let rule = KeepRule::new(retention_passed);
+    let mut first = Cleanup::new(alloc, id(1), id(4));
+    let mut second = Cleanup::new(alloc, id(2), id(5));
+    let ends = interleaved(alloc, &mut first, &mut second, &mut store, &rule);
+    assert_eq!(rt; ends, Some((PutEnd::Published(2), PutEnd::Published(3))));
+    assert_eq!(rt; first.found(), (2, false));
+    assert_eq!(rt; store.log_len(), 7);
     Ok(())
 }
