@@ -16,7 +16,7 @@ use Rattle.bcv_dbmap.specs.Past.{some_manifest, was_deleted, was_expired, is_old
 use Rattle.bcv_dbmap.specs.Sound.{Sound}
 use Rattle.bcv_dbmap.proofs.BlockLaws.{dead_is_deletable}
 use Rattle.bcv_dbmap.proofs.Bools.{or_right}
-use Rattle.bcv_cleanup.specs.CleanupPut.{TakenStays}
+use Rattle.bcv_cleanup.specs.CleanupPut.{NewHasTaken, TakenStays}
 use Rattle.bcv_cleanup.specs.CleanupWork.{IsExpired}
 
 -- ---- what is so stays so
@@ -52,6 +52,9 @@ taken_stays log more s has = record {
   expired = λ i h. after_log (λ (past : List Item). IsExpired past i s.moment) (expired_more i s.moment) log more (has.expired i h);
   deleted = λ i h. after_log (λ (past : List Item). was_deleted past i ≡ true) (deleted_more i) log more (has.deleted i h);
 }
+
+pub new_has_taken : NewHasTaken
+new_has_taken log writer id = record { expired = λ i h. absurd cc; deleted = λ i h. absurd cc }
 
 -- ---- a block whose retention has passed may be deleted
 

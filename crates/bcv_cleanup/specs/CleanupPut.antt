@@ -18,7 +18,7 @@ use Rattle.bcv_publish.specs.ManifestPut as publishing
 use Rattle.bcv_publish.specs.State as publish
 use Rattle.bcv_cleanup.specs.CleanupWork.{HasTaken}
 use Rattle.bcv_cleanup.specs.Released.{has_more, ids_of}
-use Rattle.bcv_cleanup.specs.State.{State, IsTask, taken_ids}
+use Rattle.bcv_cleanup.specs.State.{State, IsTask, new_cleanup, taken_ids}
 
 -- ---- a put
 
@@ -49,6 +49,10 @@ pub record MayPut (mine : List Id16) (log : List Entry) (s : State) (read : Late
 -- a cleanup publishes the sweep of the machine
 abbrev pub SweepIsTheEdit : Type 0
 SweepIsTheEdit = (log : List Entry) (s : State) → IsTask s → edit_of (history_of log) s.edit ≡ edits.Sweep
+
+-- a new cleanup has taken nothing, in any log
+abbrev pub NewHasTaken : Type 0
+NewHasTaken = (log : List Entry) (writer id : Id16) → HasTaken log (new_cleanup writer id)
 
 -- what a cleanup has taken stays so, whatever is appended
 abbrev pub TakenStays : Type 0

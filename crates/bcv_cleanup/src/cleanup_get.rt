@@ -130,7 +130,7 @@ fn taken_work(ids: &[Id16]) -> Work
     }
 }
 
-// TakesDead the first entries of a manifest that the rule releases, and answers whether it has more.
+// Takes the first entries of a manifest that the rule releases, and answers whether it has more.
 fn take_of<F: Fn(u64, u64, u64) -> bool>(
     manifest: &Manifest,
     moment: u64,

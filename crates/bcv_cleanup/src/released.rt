@@ -14,7 +14,7 @@ use bcv_keeprule::KeepRule;
 pub(crate) const MOST_CLEANED: usize = 64;
 
 /// Appends the ids of the first entries that the rule releases at a moment, until there are as many as may be taken.
-/// RuleAnswers how many entries it went past.
+/// Answers how many entries it went past.
 pub(crate) fn take_released<F: Fn(u64, u64, u64) -> bool>(
     dead: &[Dead],
     retention: u64,
