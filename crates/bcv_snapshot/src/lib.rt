@@ -1,0 +1,14 @@
+//! Reading one fixed image of a database through the cache of blocks.
+//!
+//! It stands on the trait of `bcv_store` and on the cache of `bcv_cache`. `fetch` brings one block into the cache by one
+//! get, and makes no request for a block that is there. Over every store that tells its log it promises when each answer
+//! comes, and over every store what is put into the cache.
+#![tactic(auto)]
+
+mod block_fetch;
+mod fetched;
+#[cfg(test)]
+mod tests;
+
+pub use block_fetch::fetch;
+pub use fetched::Fetched;
