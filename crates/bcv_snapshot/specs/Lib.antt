@@ -1,1 +1,4 @@
 pub mod BlockFetch
+pub mod Opened
+pub mod Pins
+pub mod TxnCalls

@@ -7,8 +7,15 @@
 
 mod block_fetch;
 mod fetched;
+mod held_block;
+mod look;
+mod place;
 #[cfg(test)]
 mod tests;
+mod txn;
 
 pub use block_fetch::fetch;
 pub use fetched::Fetched;
+pub use look::Look;
+pub use place::Place;
+pub use txn::Txn;
