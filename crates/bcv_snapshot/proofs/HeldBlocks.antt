@@ -1,5 +1,5 @@
 -- Lists of held blocks: the one of a number, one more, one less.
-use Rattle.std.proofs.Common.{◌≡◌, ◌∙◌, ℕ, zero, suc, ◌+◌, ◌<◌, ◌≤◌, Bool, true, false, not, cond, nat_eq, List, [], ◌∷◌, ◌++◌, length, map, slice_get, get_or, Option, Some, None, option_map, refl, sym, ap, subst, inl, inr, arith}
+use Rattle.std.proofs.Common.{◌≡◌, ◌∙◌, ℕ, zero, suc, ◌+◌, ◌<◌, ◌≤◌, Bool, true, false, not, cond, nat_eq, List, [], ◌∷◌, ◌++◌, length, map, slice_get, get_or, Option, Some, None, is_some, option_map, refl, sym, ap, subst, inl, inr, arith}
 use Rattle.std.specs.List.{AllByRecursion, IsDistinct, find, position, position_or_len, remove}
 use Rattle.std.proofs.lemmas.Bool.{cases_Bool, eqb-true}
 use Rattle.std.proofs.lemmas.Grind.{common_steps}
@@ -71,6 +71,28 @@ held_at n hs at h e is =
 
 pub not_held : (n : ℕ) (hs : List HeldBlock) → position (has_number n) hs ≡ None → find (has_number n) hs ≡ None
 not_held n hs e = find_at (has_number n) hs ∙ slice_get_past hs (position_or_len (has_number n) hs) (none_first (has_number n) hs e)
+
+-- a block has a pin where it has a place
+pub pin_where : (n : ℕ) (hs : List HeldBlock) → is_some (pin_on n hs) ≡ is_some (position (has_number n) hs)
+pin_where n hs = by (position (has_number n) hs) refl
+  where
+    slice_get_there : (xs : List HeldBlock) (k : ℕ) → k < length xs → (h : HeldBlock) × (slice_get xs k ≡ Some h)
+    slice_get_there [] k lt = absurd (omega arith)
+    slice_get_there (x ∷ xs) zero lt = (x, refl)
+    slice_get_there (x ∷ xs) (suc k) lt = slice_get_there xs k (omega arith)
+    by : (o : Option ℕ) → position (has_number n) hs ≡ o → is_some (pin_on n hs) ≡ is_some o
+    by None none = ap (λ (x : Option HeldBlock). is_some (option_map (λ (h : HeldBlock). h.pin) x)) (not_held n hs none)
+    by (Some at) some =
+        let first = first_at (has_number n) hs at some in
+        let there = slice_get_there hs at first.1 in
+        ap (λ (x : Option HeldBlock). is_some (option_map (λ (h : HeldBlock). h.pin) x)) (find_at (has_number n) hs ∙ ap (slice_get hs) first.0 ∙ there.1)
+
+pub none_found : (n : ℕ) (hs : List HeldBlock) → is_some (pin_on n hs) ≡ false → find (has_number n) hs ≡ None
+none_found n hs none = by (find (has_number n) hs) refl none
+  where
+    by : (o : Option HeldBlock) → find (has_number n) hs ≡ o → is_some (option_map (λ (h : HeldBlock). h.pin) o) ≡ false → find (has_number n) hs ≡ None
+    by None is none = is
+    by (Some h) is none = absurd (cc)
 
 -- a place that is found, by way of equal numbers and lists
 pub position_at : (n m : ℕ) (xs hs : List HeldBlock) (r o : Option ℕ) → r ≡ position (has_number n) xs → n ≡ m → xs ≡ hs → r ≡ o → position (has_number m) hs ≡ o

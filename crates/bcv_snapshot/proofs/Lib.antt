@@ -5,3 +5,4 @@ pub mod HeldBlocks
 pub mod PageOfBlock
 pub mod PinLaws
 pub mod SoundFetch
+pub mod TxnLaws

@@ -46,7 +46,7 @@ pub record IsRecounted (f : Entry → Entry) (before after : List Entry) : Type 
   pub ids : (e : Entry) → (f e).id ≡ e.id
 
 -- the entry of a slot is in it
-slot_is : (k : ℕ) (es : List Entry) (e : Entry) → entry_in k es ≡ Some e → e.slot ≡ k
+pub slot_is : (k : ℕ) (es : List Entry) (e : Entry) → entry_in k es ≡ Some e → e.slot ≡ k
 slot_is k [] e h = absurd (cc)
 slot_is k (x ∷ xs) e h = elim (cases_Bool (nat_eq k x.slot)) [
   | inl t ↦ let same : x ≡ e = (let some = rw t at h in cc) in subst (λ (y : Entry). y.slot ≡ k) same (sym (eqb-true k x.slot t))

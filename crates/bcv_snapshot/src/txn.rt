@@ -130,10 +130,10 @@ impl Txn {
         ensures pins { KeepsPins self.old.held cache.old.entries self.new.held cache.new.entries }
         ensures txn { IsTxn self.new }
     {
+        let number = self.block_of(page);
         if page == 0 {
             return false;
         }
-        let number = self.block_of(page);
         match place_of(&self.held, number) {
             Some(at) => {
                 let HeldBlock { number: _, pin } = self.held.remove(at);
@@ -173,10 +173,10 @@ impl Txn {
 
     // The number of a page's block, from 0.
     fn block_of(&self, page: u32) -> u32
-        requires { 1 ≤ page }
-        ensures { result ≡ number_of self.now.base page }
+        ensures number { result ≡ number_of self.now.base page }
+        ensures txn { IsTxn self.now }
     {
-        (page - 1) / (self.base.block / self.base.entry.page_size)
+        page.saturating_sub(1) / (self.base.block / self.base.entry.page_size)
     }
 
     // The id of the block of a page of the base.
@@ -192,7 +192,6 @@ impl Txn {
     fn held_page<'a>(&'a self, cache: &'a BlockCache, page: u32) -> Look<'a>
         requires block { cache.now.block ≡ self.now.base.block }
         requires pins { HasPins self.now.held cache.now.entries }
-        requires first { 1 ≤ page }
         ensures { LooksHeld self.now cache.now page result }
     {
         match place_of(&self.held, self.block_of(page)) {
@@ -203,12 +202,11 @@ impl Txn {
 
     // The bytes of a page in those of its block.
     fn page_in<'a>(&self, block: &'a [u8], page: u32) -> &'a [u8]
-        requires first { 1 ≤ page }
         requires whole { length block.now ≡ self.now.base.block }
         ensures { result.now ≡ page_in self.now.base page block.now }
     {
         let page_size = self.base.entry.page_size as usize;
-        let place = (page - 1) % (self.base.block / self.base.entry.page_size);
+        let place = page.saturating_sub(1) % (self.base.block / self.base.entry.page_size);
         let start = place as usize * page_size;
         &block[start..start + page_size]
     }

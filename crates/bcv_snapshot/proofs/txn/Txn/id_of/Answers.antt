@@ -5,10 +5,10 @@ use Rattle.bcv_snapshot.proofs.txn.Txn.id_of.Goals as goal
 
 pub bounds-items-block_of : goal.bounds-items-block_of
 bounds-items-block_of c =
-    number_below c.items.result.now c.args.self.now.base.entry.blocks c.block_of.result (number_of c.args.self.now.base c.args.page) (c.items.ensures ∙ ap (λ (t : Opened). t.base.entry.blocks) c.self.view_is) c.block_of.ensures
+    number_below c.items.result.now c.args.self.now.base.entry.blocks c.block_of.result (number_of c.args.self.now.base c.args.page) (c.items.ensures ∙ ap (λ (t : Opened). t.base.entry.blocks) c.self.view_is) c.block_of.ensures.number
     (inside c.args.self.now c.args.page (subst IsTxn c.self.view_is c.self.invariant) c.requires.first c.requires.last)
 
 pub returns : goal.returns
 returns c =
-    id_read c.items.result.now c.args.self.now.base.entry.blocks c.block_of.result (number_of c.args.self.now.base c.args.page) (record { 0 = _ }) (c.items.ensures ∙ ap (λ (t : Opened). t.base.entry.blocks) c.self.view_is) c.block_of.ensures
+    id_read c.items.result.now c.args.self.now.base.entry.blocks c.block_of.result (number_of c.args.self.now.base c.args.page) (record { 0 = _ }) (c.items.ensures ∙ ap (λ (t : Opened). t.base.entry.blocks) c.self.view_is) c.block_of.ensures.number
     (inside c.args.self.now c.args.page (subst IsTxn c.self.view_is c.self.invariant) c.requires.first c.requires.last)
