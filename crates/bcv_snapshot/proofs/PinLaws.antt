@@ -165,3 +165,19 @@ one_back h gone e =
 pub more_back : (h : HeldBlock) (gone : List HeldBlock) (es : List Entry) → map (counted_down h.pin.slot) (map (given_back gone) es) ≡ map (given_back (h ∷ gone)) es
 more_back h gone [] = refl
 more_back h gone (e ∷ es) = ap (λ (x : Entry). x ∷ map (counted_down h.pin.slot) (map (given_back gone) es)) (one_back h gone e) ∙ ap (λ (xs : List Entry). given_back (h ∷ gone) e ∷ xs) (more_back h gone es)
+
+-- ---- held blocks in another order
+
+pub pins_swap : (a b : List HeldBlock) (es : List Entry) → HasPins (a ++ b) es → HasPins (b ++ a) es
+pins_swap a b es has = record {
+  ids = all_both _ b a (all_rest _ a b has.ids) (all_front _ a b has.ids);
+  counts = λ k. omega (arith, has.counts k, pins_both k a b, pins_both k b a);
+}
+
+last_there : (a : List HeldBlock) (h : HeldBlock) → slice_get (a ++ h ∷ []) (length a) ≡ Some h
+last_there [] h = refl
+last_there (x ∷ xs) h = last_there xs h
+
+-- the last of the held blocks is pinned when those after it are given back
+pub next_held : (a gone : List HeldBlock) (h : HeldBlock) (es : List Entry) → HasPins ((a ++ h ∷ []) ++ gone) es → IsHeld h.pin (map (given_back gone) es)
+next_held a gone h es has = pin_held (a ++ h ∷ []) (length a) h (map (given_back gone) es) (back gone es (a ++ h ∷ []) (pins_swap (a ++ h ∷ []) gone es has)) (last_there a h)
