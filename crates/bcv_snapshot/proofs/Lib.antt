@@ -1,7 +1,9 @@
 pub mod BaseBlocks
 pub mod CacheLaws
+pub mod CallLaws
 pub mod FetchLaws
 pub mod HeldBlocks
+pub mod ImageLaws
 pub mod PageOfBlock
 pub mod PinLaws
 pub mod SoundFetch

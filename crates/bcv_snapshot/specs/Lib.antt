@@ -1,4 +1,5 @@
 pub mod BlockFetch
+pub mod FixedImage
 pub mod Opened
 pub mod Pins
 pub mod TxnCalls

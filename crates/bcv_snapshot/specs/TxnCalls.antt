@@ -1,6 +1,7 @@
 -- What the calls of a transaction answer and do, over the commits of its view and the cache.
 use Rattle.std.specs.Prelude.{◌≡◌, ◌⊎◌, ℕ, Bool, true, false, List, [], ◌∷◌, ◌++◌, map, Option, Some, None, Result, Ok, Err, is_some, option_map}
 use Rattle.bcv_base.specs.declared.id.Id16.{Id16}
+use Rattle.bcv_base.specs.declared.seen.TxnBase.{TxnBase}
 use Rattle.bcv_base.specs.Image.{Page, Writes}
 use Rattle.bcv_base.specs.Views.{FromBase, Added, Wrote}
 use Rattle.bcv_cache.specs.Entry.{Blocks, Pinned}
@@ -38,15 +39,19 @@ Places t cs c p (place.Cached slot) d = (source_of t.base cs p ≡ Some FromBase
 Places t cs c p (place.Absent id) d =
     (source_of t.base cs p ≡ Some FromBase) × (id_of t.base p ≡ Some id) × (slot_of id c.entries ≡ None) × (d ≡ c)
 
--- ---- look
+-- ---- look and lend
+
+-- the bytes are the page in the block of a slot
+pub record IsPageIn (base : TxnBase) (c : Blocks) (slot p : ℕ) (bytes : Page) : Type 0 where
+  pub block : List ℕ
+  pub there : option_map (λ e. e.bytes) (entry_in slot c.entries) ≡ Some block
+  pub page : bytes ≡ page_in base p block
 
 -- the bytes are the page in the held block
 pub record IsHeldPage (t : Opened) (c : Blocks) (p : ℕ) (bytes : Page) : Type 0 where
   pub pin : Pinned
   pub held : pin_on (number_of t.base p) t.held ≡ Some pin
-  pub block : List ℕ
-  pub there : option_map (λ e. e.bytes) (entry_in pin.slot c.entries) ≡ Some block
-  pub page : bytes ≡ page_in t.base p block
+  pub page : IsPageIn t.base c pin.slot p bytes
 
 -- what a look shows of a page of the base
 abbrev pub LooksHeld : Opened → Blocks → ℕ → Look → Type 0

@@ -8,6 +8,7 @@
 mod block_fetch;
 mod fetched;
 mod held_block;
+pub mod laws;
 mod look;
 mod place;
 #[cfg(test)]

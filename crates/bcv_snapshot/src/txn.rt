@@ -3,12 +3,12 @@ ghost use Rattle.std.specs.Prelude.{◌≡◌, ◌<◌, ◌≤◌, true, List, [
 ghost use Rattle.std.specs.List.{position};
 ghost use Rattle.bcv_base.specs.ManifestRules.{MeetsEntryRules, is_block_size};
 ghost use Rattle.bcv_base.specs.Views.{view_size};
-ghost use Rattle.bcv_cache.specs.Cache.{IsCache, IsSlotOf, IsPinnable, KeepsEntries};
+ghost use Rattle.bcv_cache.specs.Cache.{IsCache, IsInUse, IsSlotOf, IsPinnable, KeepsEntries};
 ghost use Rattle.bcv_pages.specs.Found.{shown};
 ghost use Rattle.bcv_pages.specs.Held.{CanView, view_of};
 ghost use Rattle.bcv_snapshot.specs.Opened.{IsTxn, has_number, id_of, is_held, number_of, page_in, source_of};
 ghost use Rattle.bcv_snapshot.specs.Pins.{given_back, HasPins, KeepsPins};
-ghost use Rattle.bcv_snapshot.specs.TxnCalls.{Frees, Holds, IsFound, Looks, LooksHeld, Places};
+ghost use Rattle.bcv_snapshot.specs.TxnCalls.{Frees, Holds, IsFound, IsPageIn, Looks, LooksHeld, Places};
 
 use crate::held_block::HeldBlock;
 use crate::look::Look;
@@ -119,6 +119,15 @@ impl Txn {
             Some(PageAt::Zeros) => Look::Zeros,
             Some(PageAt::Base) => self.held_page(cache, page),
         }
+    }
+
+    /// The bytes of a page of the base, lent without a pin by the cached block of this slot, where `place` found it.
+    pub fn lend<'a>(&self, cache: &'a BlockCache, page: u32, slot: Slot) -> &'a [u8]
+        requires block { cache.now.block ≡ self.now.base.block }
+        requires entry { IsInUse slot cache.now.entries }
+        ensures { IsPageIn self.now.base cache.now slot page result.now }
+    {
+        self.page_in(cache.lend(slot), page)
     }
 
     /// Gives the pin of a page's block back, and answers whether the block was held. It goes by the block: the page may be

@@ -22,4 +22,4 @@ returns-in-Some c =
     position_at c.block_of.result _ c.deref.result.now _ c.place_of.result (Some c.in-Some.at) c.place_of.ensures c.block_of.ensures.number held c.in-Some.is in
     let h = held_at (number_of c.args.self.now.base c.args.page) c.args.self.now.held c.in-Some.at c.index.result.now place
     (subst (λ (hs : List HeldBlock). c.index.result.now ≡ get_or hs c.in-Some.at c.index.result.now) (ap (λ (t : Opened). t.held) c.self.view_is) c.index.ensures) in
-    record { pin = c.index.result.now.pin; held = h.pin; block = c.bytes.result.now; there = c.bytes.ensures.bytes; page = c.page_in.ensures }
+    record { pin = c.index.result.now.pin; held = h.pin; page = record { block = c.bytes.result.now; there = c.bytes.ensures.bytes; page = c.page_in.ensures } }
