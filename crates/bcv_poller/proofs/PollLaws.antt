@@ -26,7 +26,7 @@ use Rattle.bcv_publish.specs.ManifestRead.{is_other, taken}
 use Rattle.bcv_publish.proofs.Growth.{later_of, growth_of}
 use Rattle.bcv_poller.specs.declared.polled.Polled.{Polled}
 use Rattle.bcv_poller.specs.declared.polled.Polled.TheVariants as polled
-use Rattle.bcv_poller.specs.ManifestPoll.{unlike_seen, following, Follows, IfNew, IsPolledWithin, PollEnds, PollTold, IsLastKept, IsNewer, SoundPollEnds, IsSeenIn, PollSound, Polls, PollAccepts, PollAnswered}
+use Rattle.bcv_poller.specs.ManifestPoll.{unlike_seen, following, FollowsSeen, IfNew, IsPolledWithin, PollEnds, PollTold, IsLastKept, IsNewer, SoundPollEnds, IsSeenIn, PollSound, ManifestPolls, PollAccepts, PollAnswered}
 
 -- ---- manifests that follow what was seen
 
@@ -89,7 +89,7 @@ poll_ends o x into got.NoMemory seen etag r answers a = subst (PollEnds o x seen
 
 -- ---- over every store
 
-accepts_within : (read : Result Manifest ℕ) (e : ℕ) (seen : Seen) (etag : Option ℕ) (r : Polled) → PollAccepts read e seen r → IfNew r (Follows seen) → IsPolledWithin seen etag r
+accepts_within : (read : Result Manifest ℕ) (e : ℕ) (seen : Seen) (etag : Option ℕ) (r : Polled) → PollAccepts read e seen r → IfNew r (FollowsSeen seen) → IsPolledWithin seen etag r
 accepts_within read e seen etag polled.Same a new = absurd a
 accepts_within read e seen etag (polled.New l) a new = new
 accepts_within read e seen etag polled.NoContainer a new = tt
@@ -97,7 +97,7 @@ accepts_within read e seen etag (polled.BadManifest at) a new = tt
 accepts_within read e seen etag polled.StoreFault a new = tt
 accepts_within read e seen etag polled.NoMemory a new = tt
 
-poll_within : (into : List ℕ) (g : Got) (seen : Seen) (etag : Option ℕ) (r : Polled) → IsGotWithin etag 67108864 into g → PollAnswered g into seen r → IfNew r (Follows seen) → IsPolledWithin seen etag r
+poll_within : (into : List ℕ) (g : Got) (seen : Seen) (etag : Option ℕ) (r : Polled) → IsGotWithin etag 67108864 into g → PollAnswered g into seen r → IfNew r (FollowsSeen seen) → IsPolledWithin seen etag r
 poll_within into (got.Found e) seen etag r within a new = accepts_within (manifest_of into) e seen etag r a new
 poll_within into got.Same seen etag r within a new = subst (IsPolledWithin seen etag) (sym a) within.0
 poll_within into got.Missing seen etag r within a new = subst (IsPolledWithin seen etag) (sym a) tt
@@ -225,7 +225,7 @@ poll_told store old new into g seen etag r gets a tells =
 
 -- the answer to what was got
 pub get_polls : (store : StoreTold) (old new : StoreShown) (into : List ℕ) (g : Got) (seen : Seen) (etag : Option ℕ) (r : Polled) → (store.tells → are_rising new.log ≡ true) → StoreGets store old new object.Manifest etag 67108864 into g
-    → PollAnswered g into seen r → IfNew r (Follows seen) → Polls store old new seen etag r
+    → PollAnswered g into seen r → IfNew r (FollowsSeen seen) → ManifestPolls store old new seen etag r
 get_polls store old new into g seen etag r rising gets a new_one = record {
   told = poll_told store old new into g seen etag r gets a;
   sound = λ tells mine s honest. poll_sound store mine old new seen etag r (rising tells) (poll_told store old new into g seen etag r gets a tells) s honest;

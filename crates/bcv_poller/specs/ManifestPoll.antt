@@ -38,7 +38,7 @@ following seen (Err at) = Err at
 following seen (Ok m) = taken (unlike_seen seen m) m
 
 -- a manifest meets the rules and follows what was seen
-pub record Follows (seen : Seen) (l : Latest) : Type 0 where
+pub record FollowsSeen (seen : Seen) (l : Latest) : Type 0 where
   pub rules : MeetsRules l.manifest
   pub limits : MeetsLimits l.manifest
   pub like : unlike_seen seen l.manifest ≡ None
@@ -53,7 +53,7 @@ IfNew _ Fact = Unit {0}
 -- a poll keeps to what was asked for: Same needs an etag to compare, and what is new meets the rules and follows what was seen
 abbrev pub IsPolledWithin : Seen → Option ℕ → Polled → Type 0
 IsPolledWithin seen etag polled.Same = IsSome etag
-IsPolledWithin seen etag (polled.New l) = Follows seen l
+IsPolledWithin seen etag (polled.New l) = FollowsSeen seen l
 IsPolledWithin seen etag _ = Unit {0}
 
 -- ---- over any log that is told
@@ -118,7 +118,7 @@ pub record PollSound (store : StoreTold) (mine : List Id16) (old new : StoreShow
 -- ---- the whole
 
 -- what a poll says of the store, and its causes
-pub record Polls (store : StoreTold) (old new : StoreShown) (seen : Seen) (etag : Option ℕ) (result : Polled) : Type 0 where
+pub record ManifestPolls (store : StoreTold) (old new : StoreShown) (seen : Seen) (etag : Option ℕ) (result : Polled) : Type 0 where
   pub told : store.tells → PollTold store old new seen etag result
   pub sound : OverSoundLog store old new (λ mine. PollSound store mine old new seen etag result)
   pub within : IsPolledWithin seen etag result

@@ -2,11 +2,11 @@ ghost use Rattle.std.specs.Prelude.{◌≡◌};
 ghost use Rattle.bcv_base.specs.ManifestGrammar.{manifest_of};
 ghost use Rattle.bcv_publish.specs.ManifestRead.{is_other};
 ghost use Rattle.bcv_poller.specs.ManifestPoll.{
-  Follows,
+  FollowsSeen,
   IfNew,
   PollAccepts,
   PollAnswered,
-  Polls,
+  ManifestPolls,
   unlike_seen,
 };
 
@@ -26,7 +26,7 @@ const BLOCK_AT: u64 = 24;
 /// Gets the manifest, unless it still has the etag of the one that is kept, and compares it with what was seen of the
 /// container. This is one request to the store, whatever the answer.
 pub fn poll<S: Store>(alloc: Global, store: &mut S, seen: &Seen, etag: Option<u64>) -> Polled
-    ensures polls { Polls S.told (S.shown store.old) (S.shown store.new) seen.now etag result }
+    ensures polls { ManifestPolls S.told (S.shown store.old) (S.shown store.new) seen.now etag result }
     ensures reached { S.reaches store.old store.new }
 {
     let mut bytes = Vec::new(alloc);
@@ -36,7 +36,7 @@ pub fn poll<S: Store>(alloc: Global, store: &mut S, seen: &Seen, etag: Option<u6
 
 // What an answer of the store is, with the bytes that it left.
 fn answered(alloc: Global, got: Got, bytes: &[u8], seen: &Seen) -> Polled
-    ensures new { IfNew result (λ latest. Follows seen.now latest) }
+    ensures new { IfNew result (λ latest. FollowsSeen seen.now latest) }
     ensures answered { PollAnswered got bytes.now seen.now result }
 {
     match got {
@@ -54,7 +54,7 @@ fn answered(alloc: Global, got: Got, bytes: &[u8], seen: &Seen) -> Polled
 
 // The manifest that the bytes are, where it follows what was seen.
 fn accept(alloc: Global, bytes: &[u8], etag: u64, seen: &Seen) -> Polled
-    ensures new { IfNew result (λ latest. Follows seen.now latest) }
+    ensures new { IfNew result (λ latest. FollowsSeen seen.now latest) }
     ensures accepts { PollAccepts (manifest_of bytes.now) etag seen.now result }
 {
     let manifest = match read_manifest(alloc, bytes) {

@@ -13,7 +13,7 @@ use Rattle.bcv_base.proofs.Views.{is_base-origin}
 use Rattle.bcv_cache.specs.Cache.{without}
 use Rattle.bcv_dbcopy.proofs.Powers.{block_some}
 use Rattle.bcv_snapshot.specs.declared.held_block.HeldBlock.{HeldBlock}
-use Rattle.bcv_snapshot.specs.Opened.{Opened, IsTxn, has_number, number_of, id_of, is_page, source_of}
+use Rattle.bcv_snapshot.specs.Opened.{Opened, IsTxn, has_block_number, number_of, block_id, is_page, source_of}
 use Rattle.bcv_snapshot.proofs.HeldBlocks.{all_both, all_without, differ_without, differ_push}
 use Rattle.bcv_snapshot.proofs.PageOfBlock.{sizes_full, block_inside}
 
@@ -38,10 +38,10 @@ from_base base cs p e = by (is_page base cs p) refl e
         (leb-true 1 p (first_so (nat_le 1 p) (nat_le p (view_size base.entry.pages cs)) is), leb-true p base.entry.pages (first_so (nat_le p base.entry.pages) (list_all (leaves_page p) cs) based))
 
 -- one block less, or one more, is held
-pub less_txn : (t : Opened) (n : ℕ) → IsTxn t → IsTxn (record t { held = without (has_number n) t.held })
-less_txn t n is = record { entry = is.entry; block = is.block; full = is.full; ids = all_without _ (has_number n) t.held is.ids; differ = differ_without (has_number n) t.held is.differ }
+pub less_txn : (t : Opened) (n : ℕ) → IsTxn t → IsTxn (record t { held = without (has_block_number n) t.held })
+less_txn t n is = record { entry = is.entry; block = is.block; full = is.full; ids = all_without _ (has_block_number n) t.held is.ids; differ = differ_without (has_block_number n) t.held is.differ }
 
-pub more_txn : (t : Opened) (h : HeldBlock) → slice_get t.base.entry.blocks h.number ≡ Some h.pin.id → find (has_number h.number) t.held ≡ None → IsTxn t → IsTxn (record t { held = t.held ++ h ∷ [] })
+pub more_txn : (t : Opened) (h : HeldBlock) → slice_get t.base.entry.blocks h.number ≡ Some h.pin.id → find (has_block_number h.number) t.held ≡ None → IsTxn t → IsTxn (record t { held = t.held ++ h ∷ [] })
 more_txn t h id none is = record { entry = is.entry; block = is.block; full = is.full; ids = all_both _ t.held (h ∷ []) is.ids (id, tt); differ = differ_push h t.held none is.differ }
 
 -- an id that is read at a number, by way of equal numbers and lists

@@ -13,7 +13,7 @@ use Rattle.bcv_base.specs.Joined.{joined, pages_of}
 use Rattle.bcv_cache.specs.Entry.{Entry, Blocks}
 use Rattle.bcv_cache.specs.Cache.{counted_down, counted_up, filled, found_first, has_free_slot, has_id as entry_has_id, last_unpinned, last_unpinned_dropped, room_made, without}
 use Rattle.bcv_pages.specs.Held.{Held, CanView, KeepsView, view_of}
-use Rattle.bcv_snapshot.specs.FixedImage.{Moment, CanBegin, HasFirst, ArePut, IsCacheCall, IsCall, AreCalls, txn_image}
+use Rattle.bcv_snapshot.specs.FixedImage.{Moment, CanBegin, HasFirst, ArePut, IsCacheCall, IsCall, AreCalls, fixed_image}
 use Rattle.bcv_snapshot.specs.Pins.{given_back}
 use Rattle.bcv_snapshot.proofs.HeldBlocks.{all_imply, all_without}
 
@@ -109,7 +109,7 @@ calls_keep base a (m ∷ ms) b begins calls =
     record { begins = more.begins; view = more.view ∙ one.view; bytes = more.bytes ∙ one.bytes; puts = λ i bytes h. more.puts i bytes (one.puts i bytes h) }
 
 -- the image is the same
-pub image_kept : (base : TxnBase) (a b : Moment) → IsKept base a b → txn_image b.past base (view_of b.pages base.from base.to) ≡ txn_image a.past base (view_of a.pages base.from base.to)
+pub image_kept : (base : TxnBase) (a b : Moment) → IsKept base a b → fixed_image b.past base (view_of b.pages base.from base.to) ≡ fixed_image a.past base (view_of a.pages base.from base.to)
 image_kept base a b kept =
-    ap (λ (cs : List Writes). txn_image b.past base cs) kept.view
+    ap (λ (cs : List Writes). fixed_image b.past base cs) kept.view
     ∙ ap (λ (bytes : List ℕ). view_image base.entry.page_size (pages_of base.entry.pages base.entry.page_size bytes) (view_of a.pages base.from base.to)) kept.bytes

@@ -17,7 +17,7 @@ use Rattle.bcv_store.specs.StoreShown.{StoreTold, StoreShown}
 use Rattle.bcv_store.specs.Within.{IsGotWithin}
 use Rattle.bcv_snapshot.specs.declared.fetched.Fetched.{Fetched}
 use Rattle.bcv_snapshot.specs.declared.fetched.Fetched.TheVariants as fetched
-use Rattle.bcv_snapshot.specs.BlockFetch.{BytesTaken, FetchAnswered, FetchEnds, FetchLeaves, FetchTakes, BlockGetTold, BlockGets, Fetches}
+use Rattle.bcv_snapshot.specs.BlockFetch.{BytesTaken, FetchAnswered, FetchEnds, FetchLeaves, FetchTakes, BlockGetTold, BlockGets, BlockFetches}
 use Rattle.bcv_publish.proofs.Growth.{no_others}
 use Rattle.bcv_snapshot.proofs.SoundFetch.{get_sound}
 
@@ -123,13 +123,13 @@ none_got store s id c = record {
 
 -- where nothing is found and there is room, a get is all
 fetches_by : (found : Option ℕ) (room : Bool) (store : StoreTold) (old new : StoreShown) (id : Id16) (c : Blocks) (r : Fetched) (d : Blocks) → found ≡ None → room ≡ true → BlockGets store old new id c r d
-    → Fetches found room store old new id c r d
+    → BlockFetches found room store old new id c r d
 fetches_by (Some slot) room store old new id c r d none some gets = absurd (cc)
 fetches_by None false store old new id c r d none some gets = absurd (cc)
 fetches_by None true store old new id c r d none some gets = gets
 
 -- by way of a cache that is as it was
 pub fetches_get : (store : StoreTold) (old new : StoreShown) (id : Id16) (c e : Blocks) (r : Fetched) (d : Blocks) → e ≡ c → slot_of id c.entries ≡ None → has_room e ≡ true → BlockGets store old new id e r d
-    → Fetches (slot_of id c.entries) (has_room c) store old new id c r d
+    → BlockFetches (slot_of id c.entries) (has_room c) store old new id c r d
 fetches_get store old new id c e r d same none room gets =
     fetches_by (slot_of id c.entries) (has_room c) store old new id c r d none (subst (λ (x : Blocks). has_room x ≡ true) same room) (subst (λ (x : Blocks). BlockGets store old new id x r d) same gets)

@@ -8,7 +8,7 @@ use Rattle.std.proofs.lemmas.List.Folds.{find_at}
 use Rattle.std.proofs.lemmas.Option.{slice_get_past, slice_get_read}
 use Rattle.bcv_cache.specs.Cache.{without}
 use Rattle.bcv_snapshot.specs.declared.held_block.HeldBlock.{HeldBlock}
-use Rattle.bcv_snapshot.specs.Opened.{has_number, pin_on}
+use Rattle.bcv_snapshot.specs.Opened.{has_block_number, pin_of}
 
 -- ---- all elements of a list
 
@@ -53,51 +53,51 @@ remove_first test (x ∷ xs) lt = elim (cases_Bool (test x)) [
 -- what is at the place of a number
 pub record IsHeldAt (n : ℕ) (hs : List HeldBlock) (at : ℕ) (h : HeldBlock) : Type 0 where
   pub get : slice_get hs at ≡ Some h
-  pub found : find (has_number n) hs ≡ Some h
-  pub pin : pin_on n hs ≡ Some h.pin
-  pub removed : remove hs at ≡ without (has_number n) hs
+  pub found : find (has_block_number n) hs ≡ Some h
+  pub pin : pin_of n hs ≡ Some h.pin
+  pub removed : remove hs at ≡ without (has_block_number n) hs
 
-pub held_at : (n : ℕ) (hs : List HeldBlock) (at : ℕ) (h : HeldBlock) → position (has_number n) hs ≡ Some at → h ≡ get_or hs at h → IsHeldAt n hs at h
+pub held_at : (n : ℕ) (hs : List HeldBlock) (at : ℕ) (h : HeldBlock) → position (has_block_number n) hs ≡ Some at → h ≡ get_or hs at h → IsHeldAt n hs at h
 held_at n hs at h e is =
-    let first = first_at (has_number n) hs at e in
+    let first = first_at (has_block_number n) hs at e in
     let get : slice_get hs at ≡ Some h = slice_get_read hs (length hs) at h refl first.1 is in
-    let found : find (has_number n) hs ≡ Some h = find_at (has_number n) hs ∙ ap (slice_get hs) first.0 ∙ get in
+    let found : find (has_block_number n) hs ≡ Some h = find_at (has_block_number n) hs ∙ ap (slice_get hs) first.0 ∙ get in
     record {
       get = get;
       found = found;
       pin = ap (option_map (λ (x : HeldBlock). x.pin)) found;
-      removed = ap (remove hs) (sym first.0) ∙ remove_first (has_number n) hs (subst (λ (k : ℕ). k < length hs) (sym first.0) first.1);
+      removed = ap (remove hs) (sym first.0) ∙ remove_first (has_block_number n) hs (subst (λ (k : ℕ). k < length hs) (sym first.0) first.1);
     }
 
-pub not_held : (n : ℕ) (hs : List HeldBlock) → position (has_number n) hs ≡ None → find (has_number n) hs ≡ None
-not_held n hs e = find_at (has_number n) hs ∙ slice_get_past hs (position_or_len (has_number n) hs) (none_first (has_number n) hs e)
+pub not_held : (n : ℕ) (hs : List HeldBlock) → position (has_block_number n) hs ≡ None → find (has_block_number n) hs ≡ None
+not_held n hs e = find_at (has_block_number n) hs ∙ slice_get_past hs (position_or_len (has_block_number n) hs) (none_first (has_block_number n) hs e)
 
 -- a block has a pin where it has a place
-pub pin_where : (n : ℕ) (hs : List HeldBlock) → is_some (pin_on n hs) ≡ is_some (position (has_number n) hs)
-pin_where n hs = by (position (has_number n) hs) refl
+pub pin_where : (n : ℕ) (hs : List HeldBlock) → is_some (pin_of n hs) ≡ is_some (position (has_block_number n) hs)
+pin_where n hs = by (position (has_block_number n) hs) refl
   where
     slice_get_there : (xs : List HeldBlock) (k : ℕ) → k < length xs → (h : HeldBlock) × (slice_get xs k ≡ Some h)
     slice_get_there [] k lt = absurd (omega arith)
     slice_get_there (x ∷ xs) zero lt = (x, refl)
     slice_get_there (x ∷ xs) (suc k) lt = slice_get_there xs k (omega arith)
-    by : (o : Option ℕ) → position (has_number n) hs ≡ o → is_some (pin_on n hs) ≡ is_some o
+    by : (o : Option ℕ) → position (has_block_number n) hs ≡ o → is_some (pin_of n hs) ≡ is_some o
     by None none = ap (λ (x : Option HeldBlock). is_some (option_map (λ (h : HeldBlock). h.pin) x)) (not_held n hs none)
     by (Some at) some =
-        let first = first_at (has_number n) hs at some in
+        let first = first_at (has_block_number n) hs at some in
         let there = slice_get_there hs at first.1 in
-        ap (λ (x : Option HeldBlock). is_some (option_map (λ (h : HeldBlock). h.pin) x)) (find_at (has_number n) hs ∙ ap (slice_get hs) first.0 ∙ there.1)
+        ap (λ (x : Option HeldBlock). is_some (option_map (λ (h : HeldBlock). h.pin) x)) (find_at (has_block_number n) hs ∙ ap (slice_get hs) first.0 ∙ there.1)
 
-pub none_found : (n : ℕ) (hs : List HeldBlock) → is_some (pin_on n hs) ≡ false → find (has_number n) hs ≡ None
-none_found n hs none = by (find (has_number n) hs) refl none
+pub none_found : (n : ℕ) (hs : List HeldBlock) → is_some (pin_of n hs) ≡ false → find (has_block_number n) hs ≡ None
+none_found n hs none = by (find (has_block_number n) hs) refl none
   where
-    by : (o : Option HeldBlock) → find (has_number n) hs ≡ o → is_some (option_map (λ (h : HeldBlock). h.pin) o) ≡ false → find (has_number n) hs ≡ None
+    by : (o : Option HeldBlock) → find (has_block_number n) hs ≡ o → is_some (option_map (λ (h : HeldBlock). h.pin) o) ≡ false → find (has_block_number n) hs ≡ None
     by None is none = is
     by (Some h) is none = absurd (cc)
 
 -- a place that is found, by way of equal numbers and lists
-pub position_at : (n m : ℕ) (xs hs : List HeldBlock) (r o : Option ℕ) → r ≡ position (has_number n) xs → n ≡ m → xs ≡ hs → r ≡ o → position (has_number m) hs ≡ o
+pub position_at : (n m : ℕ) (xs hs : List HeldBlock) (r o : Option ℕ) → r ≡ position (has_block_number n) xs → n ≡ m → xs ≡ hs → r ≡ o → position (has_block_number m) hs ≡ o
 position_at n m xs hs r o is same list answer =
-    subst (λ (k : ℕ). position (has_number k) hs ≡ o) same (subst (λ (ys : List HeldBlock). position (has_number n) ys ≡ o) list (sym is ∙ answer))
+    subst (λ (k : ℕ). position (has_block_number k) hs ≡ o) same (subst (λ (ys : List HeldBlock). position (has_block_number n) ys ≡ o) list (sym is ∙ answer))
 
 -- ---- one less
 
@@ -130,7 +130,7 @@ differ_without test (h ∷ hs) d = elim (cases_Bool (test h)) [
 
 -- ---- one more
 
-differ_from : (n : ℕ) (hs : List HeldBlock) → find (has_number n) hs ≡ None → AllByRecursion (λ k. nat_eq k n ≡ false) (numbers hs)
+differ_from : (n : ℕ) (hs : List HeldBlock) → find (has_block_number n) hs ≡ None → AllByRecursion (λ k. nat_eq k n ≡ false) (numbers hs)
 differ_from n [] none = tt
 differ_from n (h ∷ hs) none = elim (cases_Bool (nat_eq h.number n)) [
   | inl t ↦ let some = rw t at none in absurd (cc)
@@ -142,6 +142,6 @@ unfolding IsDistinct
 one_more n [] all d = (tt, tt)
 one_more n (k ∷ ks) all d = (all_both (λ y. nat_eq k y ≡ false) ks (n ∷ []) d.0 (all.0, tt), one_more n ks all.1 d.1)
 
-pub differ_push : (h : HeldBlock) (hs : List HeldBlock) → find (has_number h.number) hs ≡ None → IsDistinct nat_eq (numbers hs) → IsDistinct nat_eq (numbers (hs ++ h ∷ []))
+pub differ_push : (h : HeldBlock) (hs : List HeldBlock) → find (has_block_number h.number) hs ≡ None → IsDistinct nat_eq (numbers hs) → IsDistinct nat_eq (numbers (hs ++ h ∷ []))
 differ_push h hs none d =
     subst (IsDistinct nat_eq) (sym (map-append (λ (x : HeldBlock). x.number) hs (h ∷ []))) (one_more h.number (numbers hs) (differ_from h.number hs none) d)

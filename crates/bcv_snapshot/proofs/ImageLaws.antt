@@ -22,10 +22,10 @@ use Rattle.bcv_snapshot.specs.declared.look.Look.{Look}
 use Rattle.bcv_snapshot.specs.declared.look.Look.TheVariants as look
 use Rattle.bcv_snapshot.specs.declared.place.Place.{Place}
 use Rattle.bcv_snapshot.specs.declared.place.Place.TheVariants as place
-use Rattle.bcv_snapshot.specs.FixedImage.{Moment, CanBegin, HasFirst, ArePut, txn_image, ShowsPage, PlacesPage, LooksAtFixedImage, PlacesInFixedImage}
-use Rattle.bcv_snapshot.specs.Opened.{Opened, IsTxn, has_number, id_of, is_page, number_of, page_in, pin_on, source_of}
+use Rattle.bcv_snapshot.specs.FixedImage.{Moment, CanBegin, HasFirst, ArePut, fixed_image, ShowsPage, PlacesPage, LooksAtFixedImage, PlacesInFixedImage}
+use Rattle.bcv_snapshot.specs.Opened.{Opened, IsTxn, has_block_number, block_id, is_page, number_of, page_bytes, pin_of, source_of}
 use Rattle.bcv_snapshot.specs.Pins.{HasPins}
-use Rattle.bcv_snapshot.specs.TxnCalls.{IsCachedIn, IsHeldPage, IsPageIn, Looks, Places}
+use Rattle.bcv_snapshot.specs.TxnCalls.{IsCachedIn, IsHeldPage, IsPageIn, TxnLooks, TxnPlaces}
 use Rattle.bcv_snapshot.proofs.BaseBlocks.{from_base}
 use Rattle.bcv_snapshot.proofs.CallLaws.{IsKept, all_found_first, calls_keep, found_in, image_kept}
 use Rattle.bcv_snapshot.proofs.PageOfBlock.{length_pages, page_read}
@@ -36,12 +36,12 @@ use Rattle.bcv_snapshot.proofs.PageOfBlock.{length_pages, page_read}
 abbrev base_bytes : List Item → TxnBase → ℕ → Page
 base_bytes past base p = unwrap_or (page_of (image_of past base.entry.pages base.entry.page_size base.entry.blocks) p) (zeros base.entry.page_size)
 
-page_none : (past : List Item) (base : TxnBase) (cs : List Writes) (p : ℕ) → source_of base cs p ≡ None → page_of (txn_image past base cs) p ≡ None
+page_none : (past : List Item) (base : TxnBase) (cs : List Writes) (p : ℕ) → source_of base cs p ≡ None → page_of (fixed_image past base cs) p ≡ None
 page_none past base cs p none = by (nat_le 1 p) (nat_le p (view_size base.entry.pages cs)) refl refl none
   where
     by : (low high : Bool) → nat_le 1 p ≡ low → nat_le p (view_size base.entry.pages cs) ≡ high → cond (low && high) (Some (origin base.entry.pages cs p)) None ≡ None
-        → page_of (txn_image past base cs) p ≡ None
-    by false high is_low is_high h = ap (λ (n : ℕ). page_of (txn_image past base cs) n) (below p is_low)
+        → page_of (fixed_image past base cs) p ≡ None
+    by false high is_low is_high h = ap (λ (n : ℕ). page_of (fixed_image past base cs) n) (below p is_low)
       where
         below : (n : ℕ) → nat_le 1 n ≡ false → n ≡ 0
         below n e = grind (arith, nat_tests)
@@ -54,11 +54,11 @@ page_none past base cs p none = by (nat_le 1 p) (nat_le p (view_size base.entry.
     by true true is_low is_high h = absurd (cc)
 
 page_some : (past : List Item) (base : TxnBase) (cs : List Writes) (p : ℕ) (o : Origin) → source_of base cs p ≡ Some o
-    → page_of (txn_image past base cs) p ≡ Some (page_from (base_bytes past base p) (zeros base.entry.page_size) o)
+    → page_of (fixed_image past base cs) p ≡ Some (page_from (base_bytes past base p) (zeros base.entry.page_size) o)
 page_some past base cs p o some = by (is_page base cs p) refl some
   where
     by : (b : Bool) → is_page base cs p ≡ b → cond b (Some (origin base.entry.pages cs p)) None ≡ Some o
-        → page_of (txn_image past base cs) p ≡ Some (page_from (base_bytes past base p) (zeros base.entry.page_size) o)
+        → page_of (fixed_image past base cs) p ≡ Some (page_from (base_bytes past base p) (zeros base.entry.page_size) o)
     by false is h = absurd (cc)
     by true is h =
         let from : origin base.entry.pages cs p ≡ o = cc in
@@ -77,8 +77,8 @@ has_at (j ∷ js) zero i at = let same : j ≡ i = cc in subst (λ (x : Id16). h
 has_at (j ∷ js) (suc n) i at = has_id-later i j js (has_at js n i at)
 
 -- a page of the base is in the bytes first put under its block's id
-page_in_block : (past : List Item) (t : Opened) (cs : List Writes) (p : ℕ) (i : Id16) (bytes : List ℕ) → IsTxn t → ArePut past t.base → source_of t.base cs p ≡ Some FromBase → id_of t.base p ≡ Some i
-    → first_put past i ≡ Some bytes → page_of (txn_image past t.base cs) p ≡ Some (page_in t.base p bytes)
+page_in_block : (past : List Item) (t : Opened) (cs : List Writes) (p : ℕ) (i : Id16) (bytes : List ℕ) → IsTxn t → ArePut past t.base → source_of t.base cs p ≡ Some FromBase → block_id t.base p ≡ Some i
+    → first_put past i ≡ Some bytes → page_of (fixed_image past t.base cs) p ≡ Some (page_bytes t.base p bytes)
 page_in_block past t cs p i bytes is put from at first =
     let pages = from_base t.base cs p from in
     let has : HasBlock past i t.base.block = put i (has_at t.base.entry.blocks (number_of t.base p) i at) in
@@ -106,9 +106,9 @@ record IsHeldBlock (t : Opened) (n : ℕ) (pin : Pinned) (es : List Entry) : Typ
   there : IsSlotOf pin.slot pin.id es
 
 held_block : (t : Opened) (n : ℕ) (pin : Pinned) (es : List Entry) (hs : List HeldBlock) → AllByRecursion (λ h. slice_get t.base.entry.blocks h.number ≡ Some h.pin.id) hs
-    → AllByRecursion (λ h. IsSlotOf h.pin.slot h.pin.id es) hs → pin_on n hs ≡ Some pin → IsHeldBlock t n pin es
+    → AllByRecursion (λ h. IsSlotOf h.pin.slot h.pin.id es) hs → pin_of n hs ≡ Some pin → IsHeldBlock t n pin es
 held_block t n pin es [] ids there on = absurd (cc)
-held_block t n pin es (h ∷ hs) ids there on = elim (cases_Bool (has_number n h)) [
+held_block t n pin es (h ∷ hs) ids there on = elim (cases_Bool (has_block_number n h)) [
   | inl b ↦
       let same : h.pin ≡ pin = (let some = rw b at on in cc) in
       let number : h.number ≡ n = eqb-true h.number n b in
@@ -117,7 +117,7 @@ held_block t n pin es (h ∷ hs) ids there on = elim (cases_Bool (has_number n h
 ]
 
 shows : (past : List Item) (t : Opened) (cs : List Writes) (c : Blocks) (p : ℕ) (r : Look) → IsTxn t → ArePut past t.base → AllByRecursion (HasFirst past t.base) c.entries → HasPins t.held c.entries
-    → Looks t cs c p r → ShowsPage t.base.entry.page_size (page_of (txn_image past t.base cs) p) r
+    → TxnLooks t cs c p r → ShowsPage t.base.entry.page_size (page_of (fixed_image past t.base cs) p) r
 shows past t cs c p look.BadPage is put first pins looks = page_none past t.base cs p looks
 shows past t cs c p (look.Page bytes) is put first pins (inl wrote) = page_some past t.base cs p (Wrote bytes.now) wrote
 shows past t cs c p (look.Page bytes) is put first pins (inr held) =
@@ -138,7 +138,7 @@ looks_at_fixed_image a b ms t p r is begins calls pins looks =
 -- ---- place
 
 places : (old past : List Item) (t : Opened) (cs : List Writes) (c d : Blocks) (p : ℕ) (r : Place) → IsTxn t → ArePut old t.base → ((i : Id16) (bytes : List ℕ) → first_put old i ≡ Some bytes → first_put past i ≡ Some bytes)
-    → ArePut past t.base → AllByRecursion (HasFirst past t.base) c.entries → Places t cs c p r d → PlacesPage old t.base p (page_of (txn_image past t.base cs) p) r d
+    → ArePut past t.base → AllByRecursion (HasFirst past t.base) c.entries → TxnPlaces t cs c p r d → PlacesPage old t.base p (page_of (fixed_image past t.base cs) p) r d
 places old past t cs c d p place.BadPage is was stays put first at = page_none past t.base cs p at.0
 places old past t cs c d p place.Local is was stays put first at = (at.0, page_some past t.base cs p (Wrote at.0) at.1)
 places old past t cs c d p place.Zeros is was stays put first at = page_some past t.base cs p Added at.0

@@ -7,7 +7,7 @@ use Rattle.std.proofs.lemmas.List.Sums.{sum_by-append}
 use Rattle.bcv_cache.specs.Entry.{Entry, Blocks, Pinned}
 use Rattle.bcv_cache.specs.Cache.{entry_in, has_slot, without, counted_up, counted_down, IsHeld, IsInUse, IsSlotOf, KeepsPinned}
 use Rattle.bcv_snapshot.specs.declared.held_block.HeldBlock.{HeldBlock}
-use Rattle.bcv_snapshot.specs.Pins.{is_in, pins_in, count_in, given_back, HasPins, KeepsPins}
+use Rattle.bcv_snapshot.specs.Pins.{is_in, pins_in, pin_count, given_back, HasPins, KeepsPins}
 use Rattle.bcv_snapshot.proofs.HeldBlocks.{all_imply, all_both, all_front, all_rest, all_at, all_without}
 
 -- ---- how many pins are on a slot

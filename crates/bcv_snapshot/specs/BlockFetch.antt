@@ -108,11 +108,11 @@ pub record BlockGets (store : StoreTold) (old new : StoreShown) (id : Id16) (c :
   pub failed : result ≡ fetched.StoreFault → Rose old.faults new.faults
 
 -- a fetch: a block that is there is found without a request; where no block can come in it is refused so; else one get
-abbrev pub Fetches : Option ℕ → Bool → StoreTold → StoreShown → StoreShown → Id16 → Blocks → Fetched → Blocks → Type 0
-Fetches (Some slot) room store old new id c result d =
+abbrev pub BlockFetches : Option ℕ → Bool → StoreTold → StoreShown → StoreShown → Id16 → Blocks → Fetched → Blocks → Type 0
+BlockFetches (Some slot) room store old new id c result d =
     (result ≡ fetched.In slot) × (d ≡ record c { entries = found_first id c.entries }) × (new ≡ old)
-Fetches None false store old new id c result d = (result ≡ fetched.CacheFull) × (d ≡ c) × (new ≡ old)
-Fetches None true store old new id c result d = BlockGets store old new id c result d
+BlockFetches None false store old new id c result d = (result ≡ fetched.CacheFull) × (d ≡ c) × (new ≡ old)
+BlockFetches None true store old new id c result d = BlockGets store old new id c result d
 
 -- a fact on the slot of a block that is in
 abbrev pub IfIn : Fetched → (ℕ → Type 0) → Type 0

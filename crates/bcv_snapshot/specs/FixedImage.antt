@@ -16,15 +16,15 @@ use Rattle.bcv_snapshot.specs.declared.look.Look.{Look}
 use Rattle.bcv_snapshot.specs.declared.look.Look.TheVariants as look
 use Rattle.bcv_snapshot.specs.declared.place.Place.{Place}
 use Rattle.bcv_snapshot.specs.declared.place.Place.TheVariants as place
-use Rattle.bcv_snapshot.specs.Opened.{Opened, IsTxn, page_in}
+use Rattle.bcv_snapshot.specs.Opened.{Opened, IsTxn, page_bytes}
 use Rattle.bcv_snapshot.specs.Pins.{given_back, HasPins}
-use Rattle.bcv_snapshot.specs.TxnCalls.{Looks, Places, IsPageIn}
+use Rattle.bcv_snapshot.specs.TxnCalls.{TxnLooks, TxnPlaces, IsPageIn}
 
 -- ---- images
 
 -- the image of a base with the commits of its view, out of the bytes first put under its ids
-abbrev pub txn_image : List Item → TxnBase → List Writes → List Page
-txn_image past base cs = view_image base.entry.page_size (image_of past base.entry.pages base.entry.page_size base.entry.blocks) cs
+abbrev pub fixed_image : List Item → TxnBase → List Writes → List Page
+fixed_image past base cs = view_image base.entry.page_size (image_of past base.entry.pages base.entry.page_size base.entry.blocks) cs
 
 -- each block of the base was put, with the block size
 abbrev pub ArePut : List Item → TxnBase → Type 0
@@ -86,18 +86,18 @@ PlacesPage past base p o place.BadPage d = o ≡ None
 PlacesPage past base p o place.Local d = (bytes : Page) × (o ≡ Some bytes)
 PlacesPage past base p o place.Zeros d = o ≡ Some (zeros base.entry.page_size)
 PlacesPage past base p o (place.Cached slot) d = (bytes : Page) → IsPageIn base d slot p bytes → o ≡ Some bytes
-PlacesPage past base p o (place.Absent id) d = (bytes : List ℕ) × (first_put past id ≡ Some bytes) × (o ≡ Some (page_in base p bytes))
+PlacesPage past base p o (place.Absent id) d = (bytes : List ℕ) × (first_put past id ≡ Some bytes) × (o ≡ Some (page_bytes base p bytes))
 
 -- after any calls a look shows the page of the image at the begin
 abbrev pub LooksAtFixedImage : Type 0
 LooksAtFixedImage =
     (a b : Moment) (ms : List Moment) (t : Opened) (p : ℕ) (r : Look) → IsTxn t → CanBegin t.base a → AreCalls t.base a ms b
-    → HasPins t.held b.cache.entries → Looks t (view_of b.pages t.base.from t.base.to) b.cache p r
-    → ShowsPage t.base.entry.page_size (page_of (txn_image a.past t.base (view_of a.pages t.base.from t.base.to)) p) r
+    → HasPins t.held b.cache.entries → TxnLooks t (view_of b.pages t.base.from t.base.to) b.cache p r
+    → ShowsPage t.base.entry.page_size (page_of (fixed_image a.past t.base (view_of a.pages t.base.from t.base.to)) p) r
 
 -- after any calls a place leads to the page of the image at the begin
 abbrev pub PlacesInFixedImage : Type 0
 PlacesInFixedImage =
     (a b : Moment) (ms : List Moment) (t : Opened) (p : ℕ) (r : Place) (d : Blocks) → IsTxn t → CanBegin t.base a → AreCalls t.base a ms b
-    → Places t (view_of b.pages t.base.from t.base.to) b.cache p r d
-    → PlacesPage a.past t.base p (page_of (txn_image a.past t.base (view_of a.pages t.base.from t.base.to)) p) r d
+    → TxnPlaces t (view_of b.pages t.base.from t.base.to) b.cache p r d
+    → PlacesPage a.past t.base p (page_of (fixed_image a.past t.base (view_of a.pages t.base.from t.base.to)) p) r d

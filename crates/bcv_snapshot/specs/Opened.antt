@@ -36,26 +36,26 @@ abbrev pub number_of : TxnBase → ℕ → ℕ
 number_of base p = (p - 1) / per_block base
 
 -- the id of a page's block, where the base has the page
-abbrev pub id_of : TxnBase → ℕ → Option Id16
-id_of base p = slice_get base.entry.blocks (number_of base p)
+abbrev pub block_id : TxnBase → ℕ → Option Id16
+block_id base p = slice_get base.entry.blocks (number_of base p)
 
 -- the bytes of a page in those of its block
-abbrev pub page_in : TxnBase → ℕ → List ℕ → Page
-page_in base p bytes = take base.entry.page_size (drop ((p - 1) % per_block base * base.entry.page_size) bytes)
+abbrev pub page_bytes : TxnBase → ℕ → List ℕ → Page
+page_bytes base p bytes = take base.entry.page_size (drop ((p - 1) % per_block base * base.entry.page_size) bytes)
 
 -- ---- held blocks
 
 -- the held block has this number
-abbrev pub has_number : ℕ → HeldBlock → Bool
-has_number n h = nat_eq h.number n
+abbrev pub has_block_number : ℕ → HeldBlock → Bool
+has_block_number n h = nat_eq h.number n
 
 -- the pin on the block of a number, where it is held
-abbrev pub pin_on : ℕ → List HeldBlock → Option Pinned
-pin_on n hs = option_map (λ h. h.pin) (find (has_number n) hs)
+abbrev pub pin_of : ℕ → List HeldBlock → Option Pinned
+pin_of n hs = option_map (λ h. h.pin) (find (has_block_number n) hs)
 
 -- the block of a page is held
 abbrev pub is_held : Opened → ℕ → Bool
-is_held t p = nat_le 1 p && is_some (pin_on (number_of t.base p) t.held)
+is_held t p = nat_le 1 p && is_some (pin_of (number_of t.base p) t.held)
 
 -- ---- the whole
 

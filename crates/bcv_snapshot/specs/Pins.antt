@@ -15,13 +15,13 @@ abbrev pub pins_in : ℕ → List HeldBlock → ℕ
 pins_in slot hs = count_by (is_in slot) hs
 
 -- how many pins the entry of a slot has
-abbrev pub count_in : ℕ → List Entry → ℕ
-count_in slot es = option_map_or (λ e. e.count) (entry_in slot es) 0
+abbrev pub pin_count : ℕ → List Entry → ℕ
+pin_count slot es = option_map_or (λ e. e.count) (entry_in slot es) 0
 
 -- the entries have these pins: each is on the entry of its block, and no entry has fewer pins than there are on its slot
 pub record HasPins (hs : List HeldBlock) (es : List Entry) : Type 0 where
   pub ids : AllByRecursion (λ h. IsSlotOf h.pin.slot h.pin.id es) hs
-  pub counts : (slot : ℕ) → pins_in slot hs ≤ count_in slot es
+  pub counts : (slot : ℕ) → pins_in slot hs ≤ pin_count slot es
 
 -- where the entries had these pins beside those of others, they have these others now beside the same of others
 abbrev pub KeepsPins : List HeldBlock → List Entry → List HeldBlock → List Entry → Type 0

@@ -1,7 +1,7 @@
 //! The fetch of a block into the cache.
 ghost use Rattle.std.specs.Prelude.{◌≡◌, ◌≢◌, None, true, vec_len};
 ghost use Rattle.bcv_cache.specs.Cache.{slot_of, has_room, IsCache, IsSlotOf, KeepsPinned};
-ghost use Rattle.bcv_snapshot.specs.BlockFetch.{BytesTaken, FetchAnswered, Fetches, IfIn};
+ghost use Rattle.bcv_snapshot.specs.BlockFetch.{BytesTaken, FetchAnswered, BlockFetches, IfIn};
 
 use crate::fetched::Fetched;
 use bcv_base::{Id16, ObjName};
@@ -20,7 +20,7 @@ pub fn fetch<S: Store>(
     block: u32,
 ) -> Fetched
     requires block { cache.old.block ≡ block }
-    ensures fetches { Fetches (slot_of id cache.old.entries) (has_room cache.old) S.told (S.shown store.old) (S.shown store.new)
+    ensures fetches { BlockFetches (slot_of id cache.old.entries) (has_room cache.old) S.told (S.shown store.old) (S.shown store.new)
         id cache.old result cache.new }
     ensures entry { IfIn result (λ slot. IsSlotOf slot id cache.new.entries) }
     ensures pinned_stay { KeepsPinned cache.old.entries cache.new.entries }

@@ -6,9 +6,9 @@ ghost use Rattle.bcv_base.specs.Views.{view_size};
 ghost use Rattle.bcv_cache.specs.Cache.{IsCache, IsInUse, IsSlotOf, IsPinnable, KeepsEntries};
 ghost use Rattle.bcv_pages.specs.Found.{shown};
 ghost use Rattle.bcv_pages.specs.Held.{CanView, view_of};
-ghost use Rattle.bcv_snapshot.specs.Opened.{IsTxn, has_number, id_of, is_held, number_of, page_in, source_of};
+ghost use Rattle.bcv_snapshot.specs.Opened.{IsTxn, has_block_number, block_id, is_held, number_of, page_bytes, source_of};
 ghost use Rattle.bcv_snapshot.specs.Pins.{given_back, HasPins, KeepsPins};
-ghost use Rattle.bcv_snapshot.specs.TxnCalls.{Frees, Holds, IsFound, IsPageIn, Looks, LooksHeld, Places};
+ghost use Rattle.bcv_snapshot.specs.TxnCalls.{TxnFrees, TxnHolds, IsCachedOrAbsent, IsPageIn, TxnLooks, LooksHeld, TxnPlaces};
 
 use crate::held_block::HeldBlock;
 use crate::look::Look;
@@ -73,7 +73,7 @@ impl Txn {
     pub fn place(&self, pages: &PageSet, cache: &mut BlockCache, page: u32) -> Place
         requires view { CanView pages.now self.now.base.from self.now.base.to }
         requires block { cache.old.block ≡ self.now.base.block }
-        ensures places { Places self.now (view_of pages.now self.now.base.from self.now.base.to) cache.old page result cache.new }
+        ensures places { TxnPlaces self.now (view_of pages.now self.now.base.from self.now.base.to) cache.old page result cache.new }
         ensures stay { KeepsEntries cache.old.entries cache.new.entries }
         ensures cache { IsCache cache.old → IsCache cache.new }
     {
@@ -81,7 +81,7 @@ impl Txn {
             None => Place::BadPage,
             Some(PageAt::Local(_)) => Place::Local,
             Some(PageAt::Zeros) => Place::Zeros,
-            Some(PageAt::Base) => cached(cache, self.id_of(page)),
+            Some(PageAt::Base) => cached(cache, self.block_id(page)),
         }
     }
 
@@ -90,9 +90,9 @@ impl Txn {
         requires block { cache.old.block ≡ self.old.base.block }
         requires first { 1 ≤ page }
         requires last { page ≤ self.old.base.entry.pages }
-        requires entry { IsSomeAnd (id_of self.old.base page) (λ id. IsSlotOf slot id cache.old.entries) }
+        requires entry { IsSomeAnd (block_id self.old.base page) (λ id. IsSlotOf slot id cache.old.entries) }
         requires pinnable { IsPinnable slot cache.old.entries }
-        ensures holds { Holds (is_held self.old page) self.old cache.old page slot result self.new cache.new }
+        ensures holds { TxnHolds (is_held self.old page) self.old cache.old page slot result self.new cache.new }
         ensures pins { KeepsPins self.old.held cache.old.entries self.new.held cache.new.entries }
         ensures txn { IsTxn self.new }
     {
@@ -111,7 +111,7 @@ impl Txn {
         requires view { CanView pages.now self.now.base.from self.now.base.to }
         requires block { cache.now.block ≡ self.now.base.block }
         requires pins { HasPins self.now.held cache.now.entries }
-        ensures { Looks self.now (view_of pages.now self.now.base.from self.now.base.to) cache.now page result }
+        ensures { TxnLooks self.now (view_of pages.now self.now.base.from self.now.base.to) cache.now page result }
     {
         match self.page_at(pages, page) {
             None => Look::BadPage,
@@ -127,7 +127,7 @@ impl Txn {
         requires entry { IsInUse slot cache.now.entries }
         ensures { IsPageIn self.now.base cache.now slot page result.now }
     {
-        self.page_in(cache.lend(slot), page)
+        self.page_bytes(cache.lend(slot), page)
     }
 
     /// Gives the pin of a page's block back, and answers whether the block was held. It goes by the block: the page may be
@@ -135,7 +135,7 @@ impl Txn {
     pub fn free(&mut self, cache: &mut BlockCache, page: u32) -> bool
         requires block { cache.old.block ≡ self.old.base.block }
         requires pins { HasPins self.old.held cache.old.entries }
-        ensures frees { Frees self.old cache.old page result self.new cache.new }
+        ensures frees { TxnFrees self.old cache.old page result self.new cache.new }
         ensures pins { KeepsPins self.old.held cache.old.entries self.new.held cache.new.entries }
         ensures txn { IsTxn self.new }
     {
@@ -189,10 +189,10 @@ impl Txn {
     }
 
     // The id of the block of a page of the base.
-    fn id_of(&self, page: u32) -> Id16
+    fn block_id(&self, page: u32) -> Id16
         requires first { 1 ≤ page }
         requires last { page ≤ self.now.base.entry.pages }
-        ensures { id_of self.now.base page ≡ Some result }
+        ensures { block_id self.now.base page ≡ Some result }
     {
         self.base.entry.blocks.items()[self.block_of(page) as usize]
     }
@@ -204,15 +204,15 @@ impl Txn {
         ensures { LooksHeld self.now cache.now page result }
     {
         match place_of(&self.held, self.block_of(page)) {
-            Some(at) => Look::Page(self.page_in(cache.bytes(&self.held[at].pin), page)),
+            Some(at) => Look::Page(self.page_bytes(cache.bytes(&self.held[at].pin), page)),
             None => Look::NotHeld,
         }
     }
 
     // The bytes of a page in those of its block.
-    fn page_in<'a>(&self, block: &'a [u8], page: u32) -> &'a [u8]
+    fn page_bytes<'a>(&self, block: &'a [u8], page: u32) -> &'a [u8]
         requires whole { length block.now ≡ self.now.base.block }
-        ensures { result.now ≡ page_in self.now.base page block.now }
+        ensures { result.now ≡ page_bytes self.now.base page block.now }
     {
         let page_size = self.base.entry.page_size as usize;
         let place = page.saturating_sub(1) % (self.base.block / self.base.entry.page_size);
@@ -223,14 +223,14 @@ impl Txn {
 
 // Where a block stands among those that are held.
 fn place_of(held: &[HeldBlock], number: u32) -> Option<usize>
-    ensures { result ≡ position (has_number number) held.now }
+    ensures { result ≡ position (has_block_number number) held.now }
 {
     held.iter().position(|block| block.number == number)
 }
 
 // Where a block of the base is, by its id.
 fn cached(cache: &mut BlockCache, id: Id16) -> Place
-    ensures answer { IsFound id cache.old result cache.new }
+    ensures answer { IsCachedOrAbsent id cache.old result cache.new }
     ensures stay { KeepsEntries cache.old.entries cache.new.entries }
     ensures cache { IsCache cache.new }
 {

@@ -1,9 +1,9 @@
 use Rattle.std.proofs.Common.{◌≡◌, ◌∙◌, List, Bool, true, false, is_some, Option, Some, None, get_or, refl, ap, sym, subst, arith}
 use Rattle.std.specs.List.{position}
 use Rattle.bcv_snapshot.specs.declared.held_block.HeldBlock.{HeldBlock}
-use Rattle.bcv_snapshot.specs.Opened.{Opened, IsTxn, has_number, number_of, is_held}
+use Rattle.bcv_snapshot.specs.Opened.{Opened, IsTxn, has_block_number, number_of, is_held}
 use Rattle.bcv_snapshot.specs.Pins.{KeepsPins}
-use Rattle.bcv_snapshot.specs.TxnCalls.{Frees}
+use Rattle.bcv_snapshot.specs.TxnCalls.{TxnFrees}
 use Rattle.bcv_snapshot.proofs.HeldBlocks.{position_at}
 use Rattle.bcv_snapshot.proofs.TxnLaws.{FreedOne, held_is, one_freed}
 use Rattle.bcv_snapshot.proofs.txn.Txn.free.Goals as goal
@@ -38,4 +38,4 @@ pub returns-in-Some-clause-pins : goal.returns-in-Some-clause-pins
 returns-in-Some-clause-pins c = subst (λ (t : Opened). KeepsPins t.held c.args.cache.now.entries c.remove-pin.new.self.items c.unpin.new.self.entries) c.self.view_is (less c).pins
 
 pub returns-in-Some-clause-frees : goal.returns-in-Some-clause-frees
-returns-in-Some-clause-frees c = subst (λ (t : Opened). Frees t c.args.cache.now c.args.page true (made c c.remove-pin.new.self.items) c.unpin.new.self) c.self.view_is (less c).frees
+returns-in-Some-clause-frees c = subst (λ (t : Opened). TxnFrees t c.args.cache.now c.args.page true (made c c.remove-pin.new.self.items) c.unpin.new.self) c.self.view_is (less c).frees

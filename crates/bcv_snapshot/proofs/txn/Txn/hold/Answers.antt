@@ -1,9 +1,9 @@
 use Rattle.std.proofs.Common.{◌≡◌, ◌∙◌, List, [], ◌∷◌, ◌++◌, false, true, is_some, Ok, ap, sym, subst}
 use Rattle.std.specs.declared.alloc.AllocError.{AllocError}
 use Rattle.bcv_snapshot.specs.declared.held_block.HeldBlock.{HeldBlock}
-use Rattle.bcv_snapshot.specs.Opened.{Opened, IsTxn, number_of, pin_on, is_held}
+use Rattle.bcv_snapshot.specs.Opened.{Opened, IsTxn, number_of, pin_of, is_held}
 use Rattle.bcv_snapshot.specs.Pins.{KeepsPins}
-use Rattle.bcv_snapshot.specs.TxnCalls.{Holds}
+use Rattle.bcv_snapshot.specs.TxnCalls.{TxnHolds}
 use Rattle.bcv_snapshot.proofs.TxnLaws.{HeldOneMore, held_is, pin_free, holds_already, holds_not, one_more_held}
 use Rattle.bcv_snapshot.proofs.txn.Txn.hold.Goals as goal
 
@@ -33,7 +33,7 @@ more c =
     let held : is_held c.args.self.now c.args.page ≡ false =
     held_is c.args.self.now c.args.page c.block_of-number.result c.deref.result.now c.place_of.result false c.place_of.ensures c.block_of-number.ensures.number list c.requires.first not
     in
-    let free : is_some (pin_on (number_of c.args.self.now.base c.args.page) c.args.self.now.held) ≡ false =
+    let free : is_some (pin_of (number_of c.args.self.now.base c.args.page) c.args.self.now.held) ≡ false =
     pin_free (number_of c.args.self.now.base c.args.page) c.args.self.now.held c.block_of-number.result c.deref.result.now c.place_of.result c.place_of.ensures c.block_of-number.ensures.number list not
     in
     one_more_held c.args.self.now c.args.cache.now c.pin-pin.new.self c.args.page c.args.slot (record { number = c.block_of-number.result; pin = c.pin-pin.result })
@@ -58,4 +58,4 @@ returns-clause-pins c = subst (λ (t : Opened). KeepsPins c.args.self.now.held c
 
 pub returns-clause-holds : goal.returns-clause-holds
 returns-clause-holds c =
-    subst (λ (t : Opened). Holds {E = AllocError} (is_held c.args.self.now c.args.page) c.args.self.now c.args.cache.now c.args.page c.args.slot (Ok tt) t c.pin-pin.new.self) (same c) (more c).holds
+    subst (λ (t : Opened). TxnHolds {E = AllocError} (is_held c.args.self.now c.args.page) c.args.self.now c.args.cache.now c.args.page c.args.slot (Ok tt) t c.pin-pin.new.self) (same c) (more c).holds

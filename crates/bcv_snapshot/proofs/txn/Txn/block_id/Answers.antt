@@ -1,7 +1,7 @@
 use Rattle.std.proofs.Common.{◌≡◌, ◌∙◌, ◌<◌, length, ap, subst}
 use Rattle.bcv_snapshot.specs.Opened.{Opened, IsTxn, number_of}
 use Rattle.bcv_snapshot.proofs.BaseBlocks.{inside, number_below, id_read}
-use Rattle.bcv_snapshot.proofs.txn.Txn.id_of.Goals as goal
+use Rattle.bcv_snapshot.proofs.txn.Txn.block_id.Goals as goal
 
 pub bounds-items-block_of : goal.bounds-items-block_of
 bounds-items-block_of c =
