@@ -5,9 +5,9 @@ use Rattle.std.specs.Option.{option_map_or, IsSomeAnd}
 use Rattle.std.proofs.lemmas.Bool.{cases_Bool, eqb-true}
 use Rattle.std.proofs.lemmas.List.Sums.{sum_by-append}
 use Rattle.bcv_cache.specs.Entry.{Entry, Blocks, Pinned}
-use Rattle.bcv_cache.specs.Cache.{entry_in, has_slot, without, counted_up, counted_down, IsHeld, IsInUse, IsSlotOf, KeepsPinned}
+use Rattle.bcv_cache.specs.Cache.{entry_in, has_slot, without, counted_up, counted_down, IsHeld, IsInUse, IsSlotOf, KeepsEntries, KeepsPinned}
 use Rattle.bcv_snapshot.specs.declared.held_block.HeldBlock.{HeldBlock}
-use Rattle.bcv_snapshot.specs.Pins.{is_in, pins_in, pin_count, given_back, HasPins, KeepsPins}
+use Rattle.bcv_snapshot.specs.Pins.{is_in, pins_in, pin_count, given_back, HasPins, KeepsPins, PinsStay}
 use Rattle.bcv_snapshot.proofs.HeldBlocks.{all_imply, all_both, all_front, all_rest, all_at, all_without}
 
 -- ---- how many pins are on a slot
@@ -181,3 +181,55 @@ last_there (x ∷ xs) h = last_there xs h
 -- the last of the held blocks is pinned when those after it are given back
 pub next_held : (a gone : List HeldBlock) (h : HeldBlock) (es : List Entry) → HasPins ((a ++ h ∷ []) ++ gone) es → IsHeld h.pin (map (given_back gone) es)
 next_held a gone h es has = pin_held (a ++ h ∷ []) (length a) h (map (given_back gone) es) (back gone es (a ++ h ∷ []) (pins_swap (a ++ h ∷ []) gone es has)) (last_there a h)
+
+-- ---- other changes of the cache
+
+pub pins_found : (hs : List HeldBlock) (old new : List Entry) → KeepsEntries old new → HasPins hs old → HasPins hs new
+pins_found hs old new keeps has = record {
+  ids = all_imply (λ (h : HeldBlock). IsSlotOf h.pin.slot h.pin.id old) (λ (h : HeldBlock). IsSlotOf h.pin.slot h.pin.id new)
+      (λ h is. subst (λ (o : Option Entry). IsSomeAnd o (λ e. e.id ≡ h.pin.id)) (sym (keeps h.pin.slot)) is) hs has.ids;
+  counts = λ k. subst (λ (o : Option Entry). pins_in k hs ≤ count_of o) (sym (keeps k)) (has.counts k);
+}
+
+pub pins_some : (hs others : List HeldBlock) (es : List Entry) → HasPins (hs ++ others) es → HasPins hs es
+pins_some hs others es has = record { ids = all_front _ hs others has.ids; counts = λ k. omega (arith, has.counts k, pins_both k hs others) }
+
+-- an entry that has pins stays with its count
+counts_kept : (k n : ℕ) (old new : List Entry) → KeepsPinned old new → n ≤ pin_count k old → n ≤ pin_count k new
+counts_kept k n old new keeps le = by (entry_in k old) refl le
+  where
+    by : (o : Option Entry) → entry_in k old ≡ o → n ≤ count_of o → n ≤ pin_count k new
+    by None is le = omega arith
+    by (Some e) is le = counted e is le e.count refl
+      where
+        counted : (e : Entry) → entry_in k old ≡ Some e → n ≤ e.count → (c : ℕ) → e.count ≡ c → n ≤ pin_count k new
+        counted e is le zero none = omega arith
+        counted e is le (suc c) some = subst (λ (o : Option Entry). n ≤ count_of o) (sym (keeps k e is (omega arith))) le
+
+-- so does its id
+id_pinned : (h : HeldBlock) (old new : List Entry) → KeepsPinned old new → 1 ≤ pin_count h.pin.slot old → IsSlotOf h.pin.slot h.pin.id old → IsSlotOf h.pin.slot h.pin.id new
+id_pinned h old new keeps some there = by (entry_in h.pin.slot old) refl some there
+  where
+    by : (o : Option Entry) → entry_in h.pin.slot old ≡ o → 1 ≤ count_of o → IsSomeAnd o (λ e. e.id ≡ h.pin.id) → IsSlotOf h.pin.slot h.pin.id new
+    by None is some there = absurd there
+    by (Some e) is some there = subst (λ (o : Option Entry). IsSomeAnd o (λ x. x.id ≡ h.pin.id)) (sym (keeps h.pin.slot e is some)) there
+
+-- each of the pins is counted
+each_counted : (hs all : List HeldBlock) (es : List Entry) → ((k : ℕ) → pins_in k hs ≤ pins_in k all) → HasPins all es → AllByRecursion (λ h. 1 ≤ pin_count h.pin.slot es) hs
+each_counted [] all es fewer has = tt
+each_counted (h ∷ hs) all es fewer has =
+    (omega (arith, fewer h.pin.slot, has.counts h.pin.slot, pins_at (h ∷ hs) 0 h refl), each_counted hs all es (λ k. omega (arith, fewer k, pins_first k h hs)) has)
+
+all_pinned : (hs : List HeldBlock) (old new : List Entry) → KeepsPinned old new → AllByRecursion (λ h. 1 ≤ pin_count h.pin.slot old) hs → AllByRecursion (λ h. IsSlotOf h.pin.slot h.pin.id old) hs
+    → AllByRecursion (λ h. IsSlotOf h.pin.slot h.pin.id new) hs
+all_pinned [] old new keeps counted ids = tt
+all_pinned (h ∷ hs) old new keeps counted ids = (id_pinned h old new keeps counted.0 ids.0, all_pinned hs old new keeps counted.1 ids.1)
+
+pub pins_filled : (hs : List HeldBlock) (old new : List Entry) → KeepsPinned old new → HasPins hs old → HasPins hs new
+pins_filled hs old new keeps has = record {
+  ids = all_pinned hs old new keeps (each_counted hs hs old (λ k. omega arith) has) has.ids;
+  counts = λ k. counts_kept k (pins_in k hs) old new keeps (has.counts k);
+}
+
+pub pins_stay : PinsStay
+pins_stay = record { found = pins_found; filled = pins_filled; some = pins_some; swapped = pins_swap }

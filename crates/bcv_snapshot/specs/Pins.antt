@@ -3,7 +3,7 @@ use Rattle.std.specs.Prelude.{ℕ, ◌-◌, ◌≤◌, Bool, nat_eq, List, ◌++
 use Rattle.std.specs.List.{AllByRecursion, count_by}
 use Rattle.std.specs.Option.{option_map_or}
 use Rattle.bcv_cache.specs.Entry.{Entry}
-use Rattle.bcv_cache.specs.Cache.{entry_in, IsSlotOf}
+use Rattle.bcv_cache.specs.Cache.{entry_in, IsSlotOf, KeepsEntries, KeepsPinned}
 use Rattle.bcv_snapshot.specs.declared.held_block.HeldBlock.{HeldBlock}
 
 -- the held block lies in this slot
@@ -30,3 +30,13 @@ KeepsPins old before new after = (others : List HeldBlock) → HasPins (old ++ o
 -- an entry without these pins
 abbrev pub given_back : List HeldBlock → Entry → Entry
 given_back hs e = record e { count = e.count - pins_in e.slot hs }
+
+-- ---- the laws
+
+-- pins stay where each slot keeps its entry, or where each pinned entry stays; some of the pins are there where all are, in
+-- any order
+pub record PinsStay : Type 0 where
+  pub found : (hs : List HeldBlock) (old new : List Entry) → KeepsEntries old new → HasPins hs old → HasPins hs new
+  pub filled : (hs : List HeldBlock) (old new : List Entry) → KeepsPinned old new → HasPins hs old → HasPins hs new
+  pub some : (hs others : List HeldBlock) (es : List Entry) → HasPins (hs ++ others) es → HasPins hs es
+  pub swapped : (hs others : List HeldBlock) (es : List Entry) → HasPins (hs ++ others) es → HasPins (others ++ hs) es
