@@ -25,6 +25,7 @@ pub fn fetch<S: Store>(
     ensures entry { IfIn result (λ slot. IsSlotOf slot id cache.new.entries) }
     ensures pinned_stay { KeepsPinned cache.old.entries cache.new.entries }
     ensures cache { IsCache cache.new }
+    ensures same_block { cache.new.block ≡ block }
     ensures reached { S.reaches store.old store.new }
 {
     if let Some(slot) = cache.find(&id) {
@@ -59,6 +60,7 @@ fn take_answer(
     ensures entry { IfIn result (λ slot. IsSlotOf slot id cache.new.entries) }
     ensures pinned_stay { KeepsPinned cache.old.entries cache.new.entries }
     ensures cache { IsCache cache.new }
+    ensures same_block { cache.new.block ≡ block }
 {
     match got {
         Got::Found(_) => take_bytes(alloc, cache, id, block, bytes),
@@ -86,6 +88,7 @@ fn take_bytes(
     ensures entry { IfIn result (λ slot. IsSlotOf slot id cache.new.entries) }
     ensures pinned_stay { KeepsPinned cache.old.entries cache.new.entries }
     ensures cache { IsCache cache.new }
+    ensures same_block { cache.new.block ≡ block }
 {
     if bytes.len() != block as usize {
         return Fetched::BadBlock {

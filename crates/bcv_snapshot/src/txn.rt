@@ -76,6 +76,7 @@ impl Txn {
         ensures places { TxnPlaces self.now (view_of pages.now self.now.base.from self.now.base.to) cache.old page result cache.new }
         ensures stay { KeepsEntries cache.old.entries cache.new.entries }
         ensures cache { IsCache cache.old → IsCache cache.new }
+        ensures same_block { cache.new.block ≡ cache.old.block }
     {
         match self.page_at(pages, page) {
             None => Place::BadPage,
@@ -95,6 +96,7 @@ impl Txn {
         ensures holds { TxnHolds (is_held self.old page) self.old cache.old page slot result self.new cache.new }
         ensures pins { KeepsPins self.old.held cache.old.entries self.new.held cache.new.entries }
         ensures txn { IsTxn self.new }
+        ensures same_block { cache.new.block ≡ cache.old.block }
     {
         let number = self.block_of(page);
         if place_of(&self.held, number).is_some() {
@@ -138,6 +140,7 @@ impl Txn {
         ensures frees { TxnFrees self.old cache.old page result self.new cache.new }
         ensures pins { KeepsPins self.old.held cache.old.entries self.new.held cache.new.entries }
         ensures txn { IsTxn self.new }
+        ensures same_block { cache.new.block ≡ cache.old.block }
     {
         let number = self.block_of(page);
         if page == 0 {
@@ -233,6 +236,7 @@ fn cached(cache: &mut BlockCache, id: Id16) -> Place
     ensures answer { IsCachedOrAbsent id cache.old result cache.new }
     ensures stay { KeepsEntries cache.old.entries cache.new.entries }
     ensures cache { IsCache cache.new }
+    ensures same_block { cache.new.block ≡ cache.old.block }
 {
     match cache.find(&id) {
         Some(slot) => Place::Cached(slot),
