@@ -231,5 +231,9 @@ pins_filled hs old new keeps has = record {
   counts = λ k. counts_kept k (pins_in k hs) old new keeps (has.counts k);
 }
 
+pub own_pins : (old new : List HeldBlock) (before after : List Entry) → KeepsPins old before new after → HasPins old before → HasPins new after
+own_pins old new before after keeps has =
+    subst (λ (hs : List HeldBlock). HasPins hs after) (append-nil new) (keeps [] (subst (λ (hs : List HeldBlock). HasPins hs before) (sym (append-nil old)) has))
+
 pub pins_stay : PinsStay
-pins_stay = record { found = pins_found; filled = pins_filled; some = pins_some; swapped = pins_swap }
+pins_stay = record { found = pins_found; filled = pins_filled; own = own_pins; some = pins_some; swapped = pins_swap }

@@ -33,10 +33,11 @@ given_back hs e = record e { count = e.count - pins_in e.slot hs }
 
 -- ---- the laws
 
--- pins stay where each slot keeps its entry, or where each pinned entry stays; some of the pins are there where all are, in
--- any order
+-- pins stay where each slot keeps its entry, or where each pinned entry stays; a call that
+-- keeps pins keeps those of its transaction; some of the pins are there where all are, in any order
 pub record PinsStay : Type 0 where
   pub found : (hs : List HeldBlock) (old new : List Entry) → KeepsEntries old new → HasPins hs old → HasPins hs new
   pub filled : (hs : List HeldBlock) (old new : List Entry) → KeepsPinned old new → HasPins hs old → HasPins hs new
+  pub own : (old new : List HeldBlock) (before after : List Entry) → KeepsPins old before new after → HasPins old before → HasPins new after
   pub some : (hs others : List HeldBlock) (es : List Entry) → HasPins (hs ++ others) es → HasPins hs es
   pub swapped : (hs others : List HeldBlock) (es : List Entry) → HasPins (hs ++ others) es → HasPins (others ++ hs) es

@@ -1,8 +1,18 @@
+ghost use Rattle.std.specs.Prelude.{◌≡◌, ◌≤◌, [], ◌∷◌, IfOk, IsSomeAnd};
+ghost use Rattle.bcv_base.specs.Ids.{IsId};
+ghost use Rattle.bcv_base.specs.ManifestRules.{MeetsEntryRules};
+ghost use Rattle.bcv_cache.specs.Cache.{IsPinnable, IsSlotOf};
+ghost use Rattle.bcv_pages.specs.Held.{CanView};
+ghost use Rattle.bcv_snapshot.specs.Opened.{block_id};
+
 use super::*;
-use bcv_base::{Id16, ObjName, Outcome};
-use bcv_cache::BlockCache;
+use bcv_base::{DbEntry, DbName, Id16, ObjName, Outcome, Seq, TxnBase};
+use bcv_cache::{BlockCache, Slot};
 use bcv_memstore::MemStore;
+use bcv_pages::PageSet;
 use bcv_store::{Cond, Store};
+use std::alloc::Global;
+use std::process::Abort;
 use std::test::*;
 
 const WHOLE: Id16 = Id16([1; 16]);
@@ -42,5 +52,75 @@ fn a_cache_without_slots_is_full(rt: HostRuntime) -> Result<(), Fail> {
     let mut cache = BlockCache::new(alloc, 0, 4)?;
     let full = fetch(alloc, &mut store, &mut cache, NEVER_PUT, 4);
     assert_eq!(rt; full, Fetched::CacheFull);
+    Ok(())
+}
+
+// Holds the block of page 2 in a slot, looks at the page, and frees the block by page 1, which lies in it too.
+fn hold_and_free(
+    rt: &impl Abort,
+    mut txn: Txn,
+    pages: &PageSet,
+    cache: &mut BlockCache,
+    slot: Slot,
+)
+    requires view { CanView pages.now txn.base.from txn.base.to }
+    requires block { cache.old.block ≡ txn.base.block }
+    requires none { txn.held ≡ [] }
+    requires pages { 2 ≤ txn.base.entry.pages }
+    requires entry { IsSomeAnd (block_id txn.base 2) (λ id. IsSlotOf slot id cache.old.entries) }
+    requires pinnable { IsPinnable slot cache.old.entries }
+{
+    assert!(rt; matches!(txn.look(pages, cache, 2), Look::NotHeld));
+    let held = txn.hold(cache, 2, slot);
+    assert!(rt; held.is_ok());
+    assert!(rt; matches!(txn.look(pages, cache, 2), Look::Page(_)));
+    assert!(rt; txn.free(cache, 1));
+    assert!(rt; !txn.free(cache, 2));
+    txn.end(cache);
+}
+
+// The entry of a database of two pages of 512 bytes in one block.
+fn entry_of(alloc: Global, block: Id16) -> Result<DbEntry, Fail>
+    requires { IsId block }
+    ensures rules { IfOk result (MeetsEntryRules 1024) }
+    ensures page_size { IfOk result (λ e. e.page_size ≡ 512) }
+    ensures pages { IfOk result (λ e. e.pages ≡ 2) }
+    ensures blocks { IfOk result (λ e. e.blocks ≡ block ∷ []) }
+{
+    let Some(name) = DbName::read(b"a") else {
+        return Err(Fail::from("a name"));
+    };
+    // The text of a name keeps the rules of names.
+    let _ = name.text();
+    Ok(DbEntry {
+        name,
+        tag: block,
+        page_size: 512,
+        pages: 2,
+        blocks: Seq::of(vec![in alloc; block]?),
+    })
+}
+
+// A transaction over two pages in one cached block.
+#[test]
+fn a_block_is_held(rt: HostRuntime) -> Result<(), Fail> {
+    let alloc = rt.alloc();
+    let pages = PageSet::new(alloc, 512);
+    let entry = entry_of(alloc, WHOLE)?;
+    let mut cache = BlockCache::new(alloc, 1, 1024)?;
+    assert_eq!(rt; cache.find(&WHOLE), None);
+    assert!(rt; cache.room());
+    let Ok(slot) = cache.fill(alloc, WHOLE, vec![in alloc; 7; 1024]?) else {
+        return Err(Fail::from("memory for the block"));
+    };
+    let base = TxnBase {
+        entry,
+        number: 2,
+        block: 1024,
+        from: 0,
+        to: 0,
+    };
+    let txn = Txn::begin(alloc, base, &pages);
+    hold_and_free(&rt, txn, &pages, &mut cache, slot);
     Ok(())
 }

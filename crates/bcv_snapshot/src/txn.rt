@@ -96,6 +96,7 @@ impl Txn {
         ensures holds { TxnHolds (is_held self.old page) self.old cache.old page slot result self.new cache.new }
         ensures pins { KeepsPins self.old.held cache.old.entries self.new.held cache.new.entries }
         ensures txn { IsTxn self.new }
+        ensures fixed { self.new ≡ record self.old { held = self.new.held } }
         ensures same_block { cache.new.block ≡ cache.old.block }
     {
         let number = self.block_of(page);
@@ -140,6 +141,7 @@ impl Txn {
         ensures frees { TxnFrees self.old cache.old page result self.new cache.new }
         ensures pins { KeepsPins self.old.held cache.old.entries self.new.held cache.new.entries }
         ensures txn { IsTxn self.new }
+        ensures fixed { self.new ≡ record self.old { held = self.new.held } }
         ensures same_block { cache.new.block ≡ cache.old.block }
     {
         let number = self.block_of(page);
