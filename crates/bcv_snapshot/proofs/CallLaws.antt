@@ -43,6 +43,7 @@ all_room P c all = by (has_free_slot c)
     dropped : (o : Option Entry) → AllByRecursion P (option_map_or (λ e. without (entry_has_id e.id) c.entries) o c.entries)
     dropped None = all
     dropped (Some e) = all_without P (entry_has_id e.id) c.entries all
+
     by : (b : Bool) → AllByRecursion P (cond b c.entries (last_unpinned_dropped c.entries))
     by true = all
     by false = dropped (last_unpinned c.entries)

@@ -80,6 +80,7 @@ pin_where n hs = by (position (has_block_number n) hs) refl
     slice_get_there [] k lt = absurd (omega arith)
     slice_get_there (x ∷ xs) zero lt = (x, refl)
     slice_get_there (x ∷ xs) (suc k) lt = slice_get_there xs k (omega arith)
+
     by : (o : Option ℕ) → position (has_block_number n) hs ≡ o → is_some (pin_of n hs) ≡ is_some o
     by None none = ap (λ (x : Option HeldBlock). is_some (option_map (λ (h : HeldBlock). h.pin) x)) (not_held n hs none)
     by (Some at) some =

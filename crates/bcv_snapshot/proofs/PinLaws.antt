@@ -96,6 +96,7 @@ freed test hs h before after found slots others has =
   where
     same_id : (e : Entry) → (counted_down h.pin.slot e).id ≡ e.id
     same_id e = elim (nat_eq h.pin.slot e.slot) as (λ b. (cond b (record e { count = e.count - 1 }) e).id ≡ e.id) [ true ↦ refl | false ↦ refl ]
+
     counts : (k : ℕ) (o : Option Entry) → entry_in k before ≡ o → pins_in k (hs ++ others) ≤ count_of o → pins_in k (without test hs ++ others) ≤ count_of (option_map (counted_down h.pin.slot) o)
     counts k None is le = omega (arith, pins_both k hs others, pins_both k (without test hs) others, pins_without k test hs h found)
     counts k (Some e) is le =
@@ -118,11 +119,14 @@ held_more hs h before after there slots others has =
   where
     same_id : (e : Entry) → (counted_up h.pin.slot e).id ≡ e.id
     same_id e = elim (nat_eq h.pin.slot e.slot) as (λ b. (cond b (record e { count = e.count + 1 }) e).id ≡ e.id) [ true ↦ refl | false ↦ refl ]
+
     split : (k : ℕ) → pins_in k ((hs ++ h ∷ []) ++ others) ≡ one_if (nat_eq h.pin.slot k) + pins_in k (hs ++ others)
     split k = omega (arith, pins_both k (hs ++ h ∷ []) others, pins_both k hs (h ∷ []), pins_first k h [], pins_both k hs others)
+
     elsewhere : (k : ℕ) (b : Bool) → nat_eq h.pin.slot k ≡ b → entry_in k before ≡ None → b ≡ false
     elsewhere k false e none = refl
     elsewhere k true e none = absurd (subst (λ (o : Option Entry). IsSomeAnd o (λ x. x.id ≡ h.pin.id)) none (subst (λ (n : ℕ). IsSlotOf n h.pin.id before) (eqb-true h.pin.slot k e) there))
+
     counts : (k : ℕ) (o : Option Entry) → entry_in k before ≡ o → pins_in k (hs ++ others) ≤ count_of o → pins_in k ((hs ++ h ∷ []) ++ others) ≤ count_of (option_map (counted_up h.pin.slot) o)
     counts k None is le = omega (arith, split k, ap one_if (elsewhere k (nat_eq h.pin.slot k) refl is))
     counts k (Some e) is le =

@@ -56,13 +56,7 @@ fn a_cache_without_slots_is_full(rt: HostRuntime) -> Result<(), Fail> {
 }
 
 // Holds the block of page 2 in a slot, looks at the page, and frees the block by page 1, which lies in it too.
-fn hold_and_free(
-    rt: &impl Abort,
-    mut txn: Txn,
-    pages: &PageSet,
-    cache: &mut BlockCache,
-    slot: Slot,
-)
+fn hold_and_free(rt: &impl Abort, mut txn: Txn, pages: &PageSet, cache: &mut BlockCache, slot: Slot)
     requires view { CanView pages.now txn.base.from txn.base.to }
     requires block { cache.old.block ≡ txn.base.block }
     requires none { txn.held ≡ [] }
