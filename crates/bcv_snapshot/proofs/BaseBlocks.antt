@@ -1,19 +1,19 @@
 -- The blocks of a base, and the pages that come from it.
-use Rattle.std.proofs.Common.{◌≡◌, ◌∙◌, ℕ, ◌-◌, ◌/◌, ◌<◌, ◌≤◌, Bool, true, false, ◌&&◌, cond, nat_eq, nat_le, List, [], ◌∷◌, ◌++◌, length, Option, Some, None, map, slice_get, get_or, refl, sym, ap, subst, arith}
-use Rattle.std.specs.Cmp.{first_so, second_so}
-use Rattle.std.specs.List.{AllByRecursion, IsDistinct, list_all, find}
+use Rattle.std.proofs.Common.{◌≡◌, ◌∙◌, ℕ, ◌<◌, ◌≤◌, Bool, true, false, cond, nat_le, List, [], ◌∷◌, ◌++◌, length, Some, None, slice_get, get_or, refl, sym, ap, subst}
+use Rattle.std.specs.Cmp.{first_so}
+use Rattle.std.specs.List.{IsDistinct, list_all, find}
 use Rattle.std.proofs.lemmas.Bool.{leb-true}
 use Rattle.std.proofs.lemmas.Option.{slice_get-get_or}
 use Rattle.bcv_base.specs.declared.id.Id16.{Id16}
 use Rattle.bcv_base.specs.declared.seen.TxnBase.{TxnBase}
 use Rattle.bcv_base.specs.Image.{Writes, is_base, leaves_page}
 use Rattle.bcv_base.specs.ManifestRules.{MeetsEntryRules, is_block_size}
-use Rattle.bcv_base.specs.Views.{Origin, FromBase, Added, Wrote, origin, is_from_base, view_size}
+use Rattle.bcv_base.specs.Views.{FromBase, origin, is_from_base, view_size}
 use Rattle.bcv_base.proofs.Views.{is_base-origin}
 use Rattle.bcv_cache.specs.Cache.{without}
 use Rattle.bcv_dbcopy.proofs.Powers.{block_some}
 use Rattle.bcv_snapshot.specs.declared.held_block.HeldBlock.{HeldBlock}
-use Rattle.bcv_snapshot.specs.Opened.{Opened, IsTxn, has_block_number, number_of, block_id, is_page, source_of}
+use Rattle.bcv_snapshot.specs.Opened.{Opened, IsTxn, has_block_number, number_of, is_page, source_of}
 use Rattle.bcv_snapshot.proofs.HeldBlocks.{all_both, all_without, differ_without, differ_push}
 use Rattle.bcv_snapshot.proofs.PageOfBlock.{sizes_full, block_inside}
 

@@ -1,19 +1,18 @@
 -- What calls around a transaction keep: its view, the blocks of its base, and their bytes in the cache.
-use Rattle.std.proofs.Common.{◌≡◌, ◌∙◌, ◌⊎◌, ℕ, ◌+◌, ◌-◌, Bool, true, false, cond, nat_eq, List, [], ◌∷◌, map, Option, Some, None, refl, sym, ap, subst, inl, inr}
+use Rattle.std.proofs.Common.{◌≡◌, ◌∙◌, ℕ, ◌+◌, ◌-◌, Bool, true, false, cond, nat_eq, List, [], ◌∷◌, map, Option, Some, None, refl, sym, ap, subst, inl, inr}
 use Rattle.std.specs.List.{AllByRecursion, find}
 use Rattle.std.specs.Option.{option_map_or}
 use Rattle.std.proofs.lemmas.Bool.{cases_Bool}
 use Rattle.bcv_base.specs.declared.id.Id16.{Id16}
 use Rattle.bcv_base.specs.declared.seen.TxnBase.{TxnBase}
-use Rattle.bcv_base.specs.History.{Item, HasBlock, first_put}
+use Rattle.bcv_base.specs.History.{Item, first_put}
 use Rattle.bcv_base.specs.HistoryLaws.{first_put-stays, has_block-stays, joined-stays}
-use Rattle.bcv_base.specs.Ids.{has_id}
-use Rattle.bcv_base.specs.Image.{Page, Writes, view_image}
+use Rattle.bcv_base.specs.Image.{Writes, view_image}
 use Rattle.bcv_base.specs.Joined.{joined, pages_of}
 use Rattle.bcv_cache.specs.Entry.{Entry, Blocks}
-use Rattle.bcv_cache.specs.Cache.{counted_down, counted_up, filled, found_first, has_free_slot, has_id as entry_has_id, last_unpinned, last_unpinned_dropped, room_made, without}
-use Rattle.bcv_pages.specs.Held.{Held, CanView, KeepsView, view_of}
-use Rattle.bcv_snapshot.specs.FixedImage.{Moment, CanBegin, HasFirst, ArePut, IsCacheCall, IsCall, AreCalls, fixed_image}
+use Rattle.bcv_cache.specs.Cache.{counted_down, counted_up, found_first, has_free_slot, has_id as entry_has_id, last_unpinned, last_unpinned_dropped, room_made, without}
+use Rattle.bcv_pages.specs.Held.{Held, view_of}
+use Rattle.bcv_snapshot.specs.FixedImage.{Moment, CanBegin, HasFirst, IsCacheCall, IsCall, AreCalls, fixed_image}
 use Rattle.bcv_snapshot.specs.Pins.{given_back}
 use Rattle.bcv_snapshot.proofs.HeldBlocks.{all_imply, all_without}
 

@@ -1,7 +1,7 @@
 -- A page that a transaction shows, or leads to, is that of its image.
-use Rattle.std.proofs.Common.{◌≡◌, ◌∙◌, ◌⊎◌, ℕ, zero, suc, ◌-◌, ◌<◌, ◌≤◌, Bool, true, false, ◌&&◌, cond, nat_le, List, [], ◌∷◌, length, Option, Some, None, option_map, unwrap_or, slice_get, refl, sym, ap, subst, inl, inr, arith}
+use Rattle.std.proofs.Common.{◌≡◌, ◌∙◌, ℕ, zero, suc, ◌<◌, ◌≤◌, Bool, true, false, ◌&&◌, cond, nat_le, List, [], ◌∷◌, length, Option, Some, None, option_map, unwrap_or, slice_get, refl, sym, ap, subst, inl, inr, arith}
 use Rattle.std.specs.Cmp.{first_so, second_so}
-use Rattle.std.specs.List.{AllByRecursion, find}
+use Rattle.std.specs.List.{AllByRecursion}
 use Rattle.std.specs.Option.{IsSomeAnd}
 use Rattle.std.proofs.lemmas.Bool.{leb-true, eqb-true, cases_Bool}
 use Rattle.std.proofs.lemmas.Bool.Decides.{nat_tests}
@@ -10,24 +10,24 @@ use Rattle.bcv_base.specs.declared.seen.TxnBase.{TxnBase}
 use Rattle.bcv_base.specs.History.{Item, HasBlock, first_put}
 use Rattle.bcv_base.specs.HistoryLaws.{has_id-first, has_id-later}
 use Rattle.bcv_base.specs.Ids.{has_id}
-use Rattle.bcv_base.specs.Image.{Page, Writes, zeros, page_of, view_image}
+use Rattle.bcv_base.specs.Image.{Page, Writes, zeros, page_of}
 use Rattle.bcv_base.specs.Joined.{image_of, joined}
 use Rattle.bcv_base.specs.Views.{Origin, FromBase, Added, Wrote, origin, page_from, view_size}
 use Rattle.bcv_base.proofs.Views.{page_of-view_image, page_of-view_image-outside}
 use Rattle.bcv_cache.specs.Entry.{Entry, Blocks, Pinned}
-use Rattle.bcv_cache.specs.Cache.{entry_in, found_first, has_slot, IsSlotOf}
+use Rattle.bcv_cache.specs.Cache.{entry_in, has_slot, IsSlotOf}
 use Rattle.bcv_pages.specs.Held.{view_of}
 use Rattle.bcv_snapshot.specs.declared.held_block.HeldBlock.{HeldBlock}
 use Rattle.bcv_snapshot.specs.declared.look.Look.{Look}
 use Rattle.bcv_snapshot.specs.declared.look.Look.TheVariants as look
 use Rattle.bcv_snapshot.specs.declared.place.Place.{Place}
 use Rattle.bcv_snapshot.specs.declared.place.Place.TheVariants as place
-use Rattle.bcv_snapshot.specs.FixedImage.{Moment, CanBegin, HasFirst, ArePut, fixed_image, ShowsPage, PlacesPage, LooksAtFixedImage, PlacesInFixedImage}
+use Rattle.bcv_snapshot.specs.FixedImage.{HasFirst, ArePut, fixed_image, ShowsPage, PlacesPage, LooksAtFixedImage, PlacesInFixedImage}
 use Rattle.bcv_snapshot.specs.Opened.{Opened, IsTxn, has_block_number, block_id, is_page, number_of, page_bytes, pin_of, source_of}
 use Rattle.bcv_snapshot.specs.Pins.{HasPins}
-use Rattle.bcv_snapshot.specs.TxnCalls.{IsCachedIn, IsHeldPage, IsPageIn, TxnLooks, TxnPlaces}
+use Rattle.bcv_snapshot.specs.TxnCalls.{TxnLooks, TxnPlaces}
 use Rattle.bcv_snapshot.proofs.BaseBlocks.{from_base}
-use Rattle.bcv_snapshot.proofs.CallLaws.{IsKept, all_found_first, calls_keep, found_in, image_kept}
+use Rattle.bcv_snapshot.proofs.CallLaws.{all_found_first, calls_keep, found_in, image_kept}
 use Rattle.bcv_snapshot.proofs.PageOfBlock.{length_pages, page_read}
 
 -- ---- pages of the image, by where they come from

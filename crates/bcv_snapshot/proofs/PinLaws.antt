@@ -1,11 +1,11 @@
 -- Pins on the entries of a cache, where one more is given or some are given back.
-use Rattle.std.proofs.Common.{◌≡◌, ◌∙◌, ℕ, zero, suc, ◌+◌, ◌-◌, ◌<◌, ◌≤◌, Bool, true, false, cond, nat_eq, List, [], ◌∷◌, ◌++◌, length, map, slice_get, Option, Some, None, option_map, append_assoc, append-nil, if◌then◌else◌, rules, refl, sym, ap, subst, inl, inr, arith}
-use Rattle.std.specs.List.{AllByRecursion, count_by, find}
+use Rattle.std.proofs.Common.{◌≡◌, ◌∙◌, ℕ, zero, suc, ◌+◌, ◌-◌, ◌<◌, ◌≤◌, Bool, true, false, cond, nat_eq, List, [], ◌∷◌, ◌++◌, length, map, slice_get, Option, Some, None, option_map, append-nil, if◌then◌else◌, rules, refl, sym, ap, subst, inl, inr, arith}
+use Rattle.std.specs.List.{AllByRecursion, find}
 use Rattle.std.specs.Option.{option_map_or, IsSomeAnd}
 use Rattle.std.proofs.lemmas.Bool.{cases_Bool, eqb-true}
 use Rattle.std.proofs.lemmas.List.Sums.{sum_by-append}
-use Rattle.bcv_cache.specs.Entry.{Entry, Blocks, Pinned}
-use Rattle.bcv_cache.specs.Cache.{entry_in, has_slot, without, counted_up, counted_down, IsHeld, IsInUse, IsSlotOf, KeepsEntries, KeepsPinned}
+use Rattle.bcv_cache.specs.Entry.{Entry}
+use Rattle.bcv_cache.specs.Cache.{entry_in, without, counted_up, counted_down, IsHeld, IsSlotOf, KeepsEntries, KeepsPinned}
 use Rattle.bcv_snapshot.specs.declared.held_block.HeldBlock.{HeldBlock}
 use Rattle.bcv_snapshot.specs.Pins.{is_in, pins_in, pin_count, given_back, HasPins, KeepsPins, PinsStay}
 use Rattle.bcv_snapshot.proofs.HeldBlocks.{all_imply, all_both, all_front, all_rest, all_at, all_without}

@@ -65,11 +65,12 @@ pub record BlockGetTold (store : StoreTold) (old new : StoreShown) (id : Id16) (
 
 -- ---- over a sound log
 
--- why a block is not there: the last version does not list it, and of each version's entry that lists it, a later version
--- has no entry with its tag and lay the retention back when the block was deleted
+-- why a block is not there: the last version does not list it; and for each version's entry that lists it there is a later
+-- version that has no entry with its tag, and that lay the retention back when the block was deleted
 pub record IsMissing (past : List Item) (i : Id16) : Type 0 where
   pub unlisted : IfSome (last_of past) (λ m. lists m.dbs i ≡ false)
-  pub outlived : (later before : List Item) (m : Manifest) (e : DbEntry) → past ≡ later ++ Published m ∷ before → IsAmong e m.dbs → has_id i e.blocks ≡ true → IsGone later e i
+  pub outlived : (later before : List Item) (m : Manifest) (e : DbEntry)
+      → past ≡ later ++ Published m ∷ before → IsAmong e m.dbs → has_id i e.blocks ≡ true → IsGone later e i
 
 -- the bytes first put under the id are of this length, which no version has as its block size that lists the id
 pub record IsOtherBlock (past : List Item) (i : Id16) (len : ℕ) : Type 0 where

@@ -1,6 +1,6 @@
--- The image of a transaction is fixed: what a page shows is a function of what the transaction began with and of the bytes
--- first put under the ids of its base, whatever calls come between.
-use Rattle.std.specs.Prelude.{◌≡◌, ◌⊎◌, ℕ, true, List, [], ◌∷◌, map, Option, Some, None, option_map}
+-- The image of a transaction is fixed: what a page shows is a function of what the transaction began with and of the
+-- bytes first put under the ids of its base, whatever calls come between.
+use Rattle.std.specs.Prelude.{◌≡◌, ◌⊎◌, ℕ, true, List, [], ◌∷◌, map, Option, Some, None}
 use Rattle.std.specs.List.{AllByRecursion}
 use Rattle.bcv_base.specs.declared.id.Id16.{Id16}
 use Rattle.bcv_base.specs.declared.seen.TxnBase.{TxnBase}
@@ -9,7 +9,7 @@ use Rattle.bcv_base.specs.Ids.{has_id}
 use Rattle.bcv_base.specs.Image.{Page, Writes, zeros, page_of, view_image}
 use Rattle.bcv_base.specs.Joined.{image_of}
 use Rattle.bcv_cache.specs.Entry.{Entry, Blocks}
-use Rattle.bcv_cache.specs.Cache.{entry_in, counted_down, counted_up, filled, found_first, IsSlotOf}
+use Rattle.bcv_cache.specs.Cache.{counted_down, counted_up, filled, found_first}
 use Rattle.bcv_pages.specs.Held.{Held, CanView, KeepsView, view_of}
 use Rattle.bcv_snapshot.specs.declared.held_block.HeldBlock.{HeldBlock}
 use Rattle.bcv_snapshot.specs.declared.look.Look.{Look}
@@ -24,7 +24,8 @@ use Rattle.bcv_snapshot.specs.TxnCalls.{TxnLooks, TxnPlaces, IsPageIn}
 
 -- the image of a base with the commits of its view, out of the bytes first put under its ids
 abbrev pub fixed_image : List Item → TxnBase → List Writes → List Page
-fixed_image past base cs = view_image base.entry.page_size (image_of past base.entry.pages base.entry.page_size base.entry.blocks) cs
+fixed_image past base cs =
+    view_image base.entry.page_size (image_of past base.entry.pages base.entry.page_size base.entry.blocks) cs
 
 -- each block of the base was put, with the block size
 abbrev pub ArePut : List Item → TxnBase → Type 0
@@ -42,8 +43,8 @@ pub record Moment : Type 0 where
   pub cache : Blocks
   pub past : List Item
 
--- what a call does to the entries of a cache: a find, one pin more or less, all pins of a transaction less, or a block that
--- is fetched as it was first put
+-- what a call does to the entries of a cache: a find, one pin more or less, all pins of a transaction less, or a block
+-- that is fetched as it was first put
 abbrev pub IsCacheCall : List Item → Blocks → Blocks → Type 0
 IsCacheCall past c d =
     ((id : Id16) × (d.entries ≡ found_first id c.entries))
@@ -64,7 +65,8 @@ abbrev pub AreCalls : TxnBase → Moment → List Moment → Moment → Type 0
 AreCalls base a [] b = b ≡ a
 AreCalls base a (m ∷ ms) b = IsCall base a m × AreCalls base m ms b
 
--- a transaction may begin: its view can be asked for, its blocks were put, and those of them that are cached are as they were first put
+-- a transaction may begin: its view can be asked for, its blocks were put, and those of them that are cached are as they
+-- were first put
 pub record CanBegin (base : TxnBase) (a : Moment) : Type 0 where
   pub view : CanView a.pages base.from base.to
   pub put : ArePut a.past base

@@ -1,5 +1,5 @@
 -- What a transaction keeps, and what its pages and blocks are.
-use Rattle.std.specs.Prelude.{◌≡◌, ℕ, ◌-◌, ◌*◌, ◌/◌, ◌%◌, ◌≤◌, Bool, true, ◌&&◌, nat_eq, nat_le, List, map, take, drop, length, Option, Some, None, is_some, option_map, slice_get, find, if◌then◌else◌}
+use Rattle.std.specs.Prelude.{◌≡◌, ℕ, ◌-◌, ◌*◌, ◌/◌, ◌%◌, ◌≤◌, Bool, true, ◌&&◌, nat_eq, nat_le, List, map, take, drop, Option, Some, None, is_some, option_map, slice_get, find, if◌then◌else◌}
 use Rattle.std.specs.List.{AllByRecursion, IsDistinct}
 use Rattle.bcv_base.specs.declared.id.Id16.{Id16}
 use Rattle.bcv_base.specs.declared.seen.TxnBase.{TxnBase}
@@ -65,7 +65,8 @@ pub record IsFull (block page_size : ℕ) : Type 0 where
   pub many : 1 ≤ block / page_size
   pub full : block / page_size * page_size ≡ block
 
--- what holds of every transaction: its entry keeps the rules for a block size, each pin is on the block of its number, and no block is held twice
+-- what holds of every transaction: its entry keeps the rules for a block size, each pin is on the block of its number, and
+-- no block is held twice
 pub record IsTxn (t : Opened) : Type 0 where
   pub entry : MeetsEntryRules t.base.block t.base.entry
   pub block : is_block_size t.base.block ≡ true

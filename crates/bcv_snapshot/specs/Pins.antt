@@ -18,7 +18,7 @@ pins_in slot hs = count_by (is_in slot) hs
 abbrev pub pin_count : ℕ → List Entry → ℕ
 pin_count slot es = option_map_or (λ e. e.count) (entry_in slot es) 0
 
--- the entries have these pins: each is on the entry of its block, and no entry has fewer pins than there are on its slot
+-- the entries have these pins: each is on the entry of its block, and no entry has fewer pins than are on its slot
 pub record HasPins (hs : List HeldBlock) (es : List Entry) : Type 0 where
   pub ids : AllByRecursion (λ h. IsSlotOf h.pin.slot h.pin.id es) hs
   pub counts : (slot : ℕ) → pins_in slot hs ≤ pin_count slot es

@@ -3,8 +3,9 @@
 ghost use Rattle.bcv_snapshot.specs.FixedImage.{LooksAtFixedImage, PlacesInFixedImage};
 ghost use Rattle.bcv_snapshot.specs.Pins.{PinsStay};
 
-/// Whatever calls come between, in any order and by anybody, a page that a transaction shows, or leads to, is that of the
-/// image at its begin: a function of the base, of the commits of its view, and of the bytes first put under the base's ids.
+/// Whatever calls come between, in any order and by anybody, a page that a transaction shows, or leads to, is that of
+/// the image at its begin: a function of the base, of the commits of its view, and of the bytes first put under the
+/// base's ids.
 pub fn image_is_fixed()
     ensures looks { LooksAtFixedImage }
     ensures places { PlacesInFixedImage }

@@ -1,14 +1,45 @@
 //! The calls of a transaction.
-ghost use Rattle.std.specs.Prelude.{◌≡◌, ◌<◌, ◌≤◌, true, List, [], ◌∷◌, ◌++◌, map, length, vec_len, vec_capacity, option_map, Some, IsSomeAnd};
+ghost use Rattle.std.specs.Prelude.{
+  ◌≡◌,
+  ◌<◌,
+  ◌≤◌,
+  true,
+  [],
+  ◌∷◌,
+  ◌++◌,
+  map,
+  length,
+  vec_len,
+  vec_capacity,
+  option_map,
+  Some,
+  IsSomeAnd,
+};
 ghost use Rattle.std.specs.List.{position};
 ghost use Rattle.bcv_base.specs.ManifestRules.{MeetsEntryRules, is_block_size};
 ghost use Rattle.bcv_base.specs.Views.{view_size};
 ghost use Rattle.bcv_cache.specs.Cache.{IsCache, IsInUse, IsSlotOf, IsPinnable, KeepsEntries};
 ghost use Rattle.bcv_pages.specs.Found.{shown};
 ghost use Rattle.bcv_pages.specs.Held.{CanView, view_of};
-ghost use Rattle.bcv_snapshot.specs.Opened.{IsTxn, has_block_number, block_id, is_held, number_of, page_bytes, source_of};
+ghost use Rattle.bcv_snapshot.specs.Opened.{
+  IsTxn,
+  block_id,
+  has_block_number,
+  is_held,
+  number_of,
+  page_bytes,
+  source_of,
+};
 ghost use Rattle.bcv_snapshot.specs.Pins.{given_back, HasPins, KeepsPins};
-ghost use Rattle.bcv_snapshot.specs.TxnCalls.{TxnFrees, TxnHolds, IsCachedOrAbsent, IsPageIn, TxnLooks, LooksHeld, TxnPlaces};
+ghost use Rattle.bcv_snapshot.specs.TxnCalls.{
+  IsCachedOrAbsent,
+  IsPageIn,
+  LooksHeld,
+  TxnFrees,
+  TxnHolds,
+  TxnLooks,
+  TxnPlaces,
+};
 
 use crate::held_block::HeldBlock;
 use crate::look::Look;
@@ -44,7 +75,11 @@ impl Txn {
         requires entry { MeetsEntryRules base.block base.entry }
         requires block { is_block_size base.block ≡ true }
         requires page_size { pages.now.page_size ≡ base.entry.page_size }
-        ensures begun { result ≡ record { base = base; size = view_size base.entry.pages (view_of pages.now base.from base.to); held = [] } }
+        ensures begun { result ≡ record {
+          base = base;
+          size = view_size base.entry.pages (view_of pages.now base.from base.to);
+          held = [];
+        } }
         ensures txn { IsTxn result }
     {
         Txn {
@@ -73,7 +108,8 @@ impl Txn {
     pub fn place(&self, pages: &PageSet, cache: &mut BlockCache, page: u32) -> Place
         requires view { CanView pages.now self.now.base.from self.now.base.to }
         requires block { cache.old.block ≡ self.now.base.block }
-        ensures places { TxnPlaces self.now (view_of pages.now self.now.base.from self.now.base.to) cache.old page result cache.new }
+        ensures places { TxnPlaces self.now (view_of pages.now self.now.base.from self.now.base.to) cache.old page result
+            cache.new }
         ensures stay { KeepsEntries cache.old.entries cache.new.entries }
         ensures cache { IsCache cache.old → IsCache cache.new }
         ensures same_block { cache.new.block ≡ cache.old.block }
@@ -176,7 +212,8 @@ impl Txn {
     // What the view has at a page, if there is such a page.
     fn page_at<'a>(&self, pages: &'a PageSet, page: u32) -> Option<PageAt<'a>>
         requires { CanView pages.now self.now.base.from self.now.base.to }
-        ensures { option_map shown result ≡ source_of self.now.base (view_of pages.now self.now.base.from self.now.base.to) page }
+        ensures { option_map shown result
+            ≡ source_of self.now.base (view_of pages.now self.now.base.from self.now.base.to) page }
     {
         let base = &self.base;
         if page == 0 || page > pages.size(base.entry.pages, base.from, base.to) {

@@ -1,8 +1,8 @@
-use Rattle.std.proofs.Common.{◌≡◌, ◌∙◌, List, [], ◌∷◌, ◌++◌, map, append-nil, append_assoc, refl, ap, sym, subst}
+use Rattle.std.proofs.Common.{◌∙◌, List, [], ◌∷◌, ◌++◌, map, append-nil, append_assoc, ap, sym, subst}
 use Rattle.bcv_cache.specs.Entry.{Entry, Blocks}
 use Rattle.bcv_cache.specs.Cache.{counted_down, IsHeld}
 use Rattle.bcv_snapshot.specs.declared.held_block.HeldBlock.{HeldBlock}
-use Rattle.bcv_snapshot.specs.Pins.{given_back, HasPins}
+use Rattle.bcv_snapshot.specs.Pins.{HasPins}
 use Rattle.bcv_snapshot.proofs.PinLaws.{none_back, more_back, next_held}
 use Rattle.bcv_snapshot.proofs.txn.give_back.Goals as goal
 

@@ -1,4 +1,4 @@
-use Rattle.std.proofs.Common.{◌≡◌, ◌++◌, ℕ, List, map, vec_len}
+use Rattle.std.proofs.Common.{◌≡◌, ◌++◌, List, map, vec_len}
 use Rattle.bcv_snapshot.specs.declared.held_block.HeldBlock.{HeldBlock}
 use Rattle.bcv_snapshot.specs.Pins.{given_back}
 use Rattle.bcv_snapshot.proofs.txn.give_back.Given as goal

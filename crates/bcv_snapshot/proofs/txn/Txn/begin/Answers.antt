@@ -1,4 +1,4 @@
-use Rattle.std.proofs.Common.{List, [], sym, subst}
+use Rattle.std.proofs.Common.{List, sym, subst}
 use Rattle.bcv_snapshot.specs.declared.held_block.HeldBlock.{HeldBlock}
 use Rattle.bcv_snapshot.specs.Opened.{Opened, IsTxn}
 use Rattle.bcv_snapshot.proofs.BaseBlocks.{begun}

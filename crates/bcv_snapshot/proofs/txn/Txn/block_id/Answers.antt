@@ -1,4 +1,4 @@
-use Rattle.std.proofs.Common.{◌≡◌, ◌∙◌, ◌<◌, length, ap, subst}
+use Rattle.std.proofs.Common.{◌∙◌, ap, subst}
 use Rattle.bcv_snapshot.specs.Opened.{Opened, IsTxn, number_of}
 use Rattle.bcv_snapshot.proofs.BaseBlocks.{inside, number_below, id_read}
 use Rattle.bcv_snapshot.proofs.txn.Txn.block_id.Goals as goal

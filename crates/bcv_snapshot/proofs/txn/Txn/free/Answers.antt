@@ -1,7 +1,6 @@
-use Rattle.std.proofs.Common.{◌≡◌, ◌∙◌, List, Bool, true, false, is_some, Option, Some, None, get_or, refl, ap, sym, subst, arith}
-use Rattle.std.specs.List.{position}
+use Rattle.std.proofs.Common.{◌≡◌, ◌∙◌, List, true, false, is_some, Some, refl, ap, sym, subst, arith}
 use Rattle.bcv_snapshot.specs.declared.held_block.HeldBlock.{HeldBlock}
-use Rattle.bcv_snapshot.specs.Opened.{Opened, IsTxn, has_block_number, number_of, is_held}
+use Rattle.bcv_snapshot.specs.Opened.{Opened, number_of}
 use Rattle.bcv_snapshot.specs.Pins.{KeepsPins}
 use Rattle.bcv_snapshot.specs.TxnCalls.{TxnFrees}
 use Rattle.bcv_snapshot.proofs.HeldBlocks.{position_at}

@@ -1,4 +1,4 @@
-use Rattle.std.proofs.Common.{◌≡◌, ◌∙◌, List, Some, None, option_map, get_or, ap, sym, subst}
+use Rattle.std.proofs.Common.{◌≡◌, ◌∙◌, List, Some, None, option_map, get_or, ap, subst}
 use Rattle.std.specs.List.{position}
 use Rattle.bcv_snapshot.specs.declared.held_block.HeldBlock.{HeldBlock}
 use Rattle.bcv_snapshot.specs.Opened.{Opened, has_block_number, number_of}

@@ -1,4 +1,4 @@
-use Rattle.std.proofs.Common.{◌∙◌, Option, Some, ap, sym}
+use Rattle.std.proofs.Common.{◌∙◌, Some, ap, sym}
 use Rattle.bcv_pages.specs.declared.search.PageAt.{PageAt}
 use Rattle.bcv_pages.specs.Found.{shown}
 use Rattle.bcv_pages.specs.Held.{view_of}
