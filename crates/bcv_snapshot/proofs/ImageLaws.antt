@@ -13,7 +13,7 @@ use Rattle.bcv_base.specs.Ids.{has_id}
 use Rattle.bcv_base.specs.Image.{Page, Writes, zeros, page_of}
 use Rattle.bcv_base.specs.Joined.{image_of, joined}
 use Rattle.bcv_base.specs.Views.{Origin, FromBase, Added, Wrote, origin, page_from, view_size}
-use Rattle.bcv_base.proofs.Views.{page_of-view_image, page_of-view_image-outside}
+use Rattle.bcv_base.proofs.Views.{length-view_image, page_of-view_image, page_of-view_image-outside}
 use Rattle.bcv_cache.specs.Entry.{Entry, Blocks, Pinned}
 use Rattle.bcv_cache.specs.Cache.{entry_in, has_slot, IsSlotOf}
 use Rattle.bcv_pages.specs.Held.{view_of}
@@ -22,7 +22,7 @@ use Rattle.bcv_snapshot.specs.declared.look.Look.{Look}
 use Rattle.bcv_snapshot.specs.declared.look.Look.TheVariants as look
 use Rattle.bcv_snapshot.specs.declared.place.Place.{Place}
 use Rattle.bcv_snapshot.specs.declared.place.Place.TheVariants as place
-use Rattle.bcv_snapshot.specs.FixedImage.{HasFirst, ArePut, fixed_image, ShowsPage, PlacesPage, LooksAtFixedImage, PlacesInFixedImage}
+use Rattle.bcv_snapshot.specs.FixedImage.{HasFirst, ArePut, fixed_image, ShowsPage, PlacesPage, SizesAreFixed, LooksAtFixedImage, PlacesInFixedImage}
 use Rattle.bcv_snapshot.specs.Opened.{Opened, IsTxn, has_block_number, block_id, is_page, number_of, page_bytes, pin_of, source_of}
 use Rattle.bcv_snapshot.specs.Pins.{HasPins}
 use Rattle.bcv_snapshot.specs.TxnCalls.{TxnLooks, TxnPlaces}
@@ -67,6 +67,11 @@ page_some past base cs p o some = by (is_page base cs p) refl some
         page_of-view_image base.entry.page_size (image_of past base.entry.pages base.entry.page_size base.entry.blocks) cs p (leb-true 1 p (first_so (nat_le 1 p) (nat_le p (view_size base.entry.pages cs)) is))
         (subst (λ (n : ℕ). p ≤ view_size n cs) (sym long) within)
         ∙ ap (λ (x : Origin). Some (page_from (base_bytes past base p) (zeros base.entry.page_size) x)) (ap (λ (n : ℕ). origin n cs p) long ∙ from)
+
+pub sizes_are_fixed : SizesAreFixed
+sizes_are_fixed past base cs =
+    length-view_image base.entry.page_size (image_of past base.entry.pages base.entry.page_size base.entry.blocks) cs
+    ∙ ap (λ (n : ℕ). view_size n cs) (length_pages base.entry.pages base.entry.page_size (joined past base.entry.blocks))
 
 -- ---- pages of the base
 

@@ -1,6 +1,6 @@
 -- The image of a transaction is fixed: what a page shows is a function of what the transaction began with and of the
 -- bytes first put under the ids of its base, whatever calls come between.
-use Rattle.std.specs.Prelude.{◌≡◌, ◌⊎◌, ℕ, true, List, [], ◌∷◌, map, Option, Some, None}
+use Rattle.std.specs.Prelude.{length, ◌≡◌, ◌⊎◌, ℕ, true, List, [], ◌∷◌, map, Option, Some, None}
 use Rattle.std.specs.List.{AllByRecursion}
 use Rattle.bcv_base.specs.declared.id.Id16.{Id16}
 use Rattle.bcv_base.specs.declared.seen.TxnBase.{TxnBase}
@@ -8,6 +8,7 @@ use Rattle.bcv_base.specs.History.{Item, HasBlock, first_put}
 use Rattle.bcv_base.specs.Ids.{has_id}
 use Rattle.bcv_base.specs.Image.{Page, Writes, zeros, page_of, view_image}
 use Rattle.bcv_base.specs.Joined.{image_of}
+use Rattle.bcv_base.specs.Views.{view_size}
 use Rattle.bcv_cache.specs.Entry.{Entry, Blocks}
 use Rattle.bcv_cache.specs.Cache.{counted_down, counted_up, filled, found_first}
 use Rattle.bcv_pages.specs.Held.{Held, CanView, KeepsView, view_of}
@@ -89,6 +90,10 @@ PlacesPage past base p o place.Local d = (bytes : Page) × (o ≡ Some bytes)
 PlacesPage past base p o place.Zeros d = o ≡ Some (zeros base.entry.page_size)
 PlacesPage past base p o (place.Cached slot) d = (bytes : Page) → IsPageIn base d slot p bytes → o ≡ Some bytes
 PlacesPage past base p o (place.Absent id) d = (bytes : List ℕ) × (first_put past id ≡ Some bytes) × (o ≡ Some (page_bytes base p bytes))
+
+-- the size of a view is that of its image
+abbrev pub SizesAreFixed : Type 0
+SizesAreFixed = (past : List Item) (base : TxnBase) (cs : List Writes) → length (fixed_image past base cs) ≡ view_size base.entry.pages cs
 
 -- after any calls a look shows the page of the image at the begin
 abbrev pub LooksAtFixedImage : Type 0

@@ -1,12 +1,13 @@
 //! The laws of transactions. Each function does nothing: its clause is the law, for proofs to cite.
 
-ghost use Rattle.bcv_snapshot.specs.FixedImage.{LooksAtFixedImage, PlacesInFixedImage};
+ghost use Rattle.bcv_snapshot.specs.FixedImage.{LooksAtFixedImage, PlacesInFixedImage, SizesAreFixed};
 ghost use Rattle.bcv_snapshot.specs.Pins.{PinsStay};
 
 /// Whatever calls come between, in any order and by anybody, a page that a transaction shows, or leads to, is that of
 /// the image at its begin: a function of the base, of the commits of its view, and of the bytes first put under the
 /// base's ids.
 pub fn image_is_fixed()
+    ensures sizes { SizesAreFixed }
     ensures looks { LooksAtFixedImage }
     ensures places { PlacesInFixedImage }
 {}

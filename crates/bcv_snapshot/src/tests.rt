@@ -1,15 +1,15 @@
-ghost use Rattle.std.specs.Prelude.{◌≡◌, ◌≤◌, [], ◌∷◌, IfOk, IsSomeAnd};
+ghost use Rattle.std.specs.Prelude.{◌≡◌, ◌+◌, ◌<◌, ◌≤◌, [], ◌∷◌, IfOk, OnOk, IsSomeAnd};
 ghost use Rattle.bcv_base.specs.Ids.{IsId};
 ghost use Rattle.bcv_base.specs.ManifestRules.{MeetsEntryRules};
 ghost use Rattle.bcv_cache.specs.Cache.{IsPinnable, IsSlotOf};
-ghost use Rattle.bcv_pages.specs.Held.{CanView};
+ghost use Rattle.bcv_pages.specs.Held.{CanView, last_of};
 ghost use Rattle.bcv_snapshot.specs.Opened.{block_id};
 
 use super::*;
 use bcv_base::{DbEntry, DbName, Id16, ObjName, Outcome, Seq, TxnBase};
 use bcv_cache::{BlockCache, Slot};
 use bcv_memstore::MemStore;
-use bcv_pages::PageSet;
+use bcv_pages::{PageSet, WriteTxn};
 use bcv_store::{Cond, Store};
 use std::alloc::Global;
 use std::process::Abort;
@@ -116,5 +116,50 @@ fn a_block_is_held(rt: HostRuntime) -> Result<(), Fail> {
     };
     let txn = Txn::begin(alloc, base, &pages);
     hold_and_free(&rt, txn, &pages, &mut cache, slot);
+    Ok(())
+}
+
+// Adds a commit of a size that writes the last page.
+fn add_commit(alloc: Global, pages: &mut PageSet, size: u32, writes: bool) -> Result<(), Fail>
+    requires page_size { pages.old.page_size ≡ 512 }
+    requires last { last_of pages.old < 100 }
+    ensures page_size { pages.new.page_size ≡ 512 }
+    ensures forgotten { pages.new.forgotten ≡ pages.old.forgotten }
+    ensures last { OnOk result (last_of pages.new ≡ last_of pages.old + 1) }
+{
+    let mut draft = WriteTxn::new(alloc, 512, size);
+    if writes && draft.write(size, &[9; 512]).is_err() {
+        return Err(Fail::from("a page"));
+    }
+    let commit = draft.finish();
+    pages.reserve(&commit)?;
+    pages.add(commit);
+    Ok(())
+}
+
+// A base page, a page of zeros by a cut and growth, a local page, and no page.
+#[test]
+fn pages_after_a_cut_and_growth(rt: HostRuntime) -> Result<(), Fail> {
+    let alloc = rt.alloc();
+    let mut pages = PageSet::new(alloc, 512);
+    add_commit(alloc, &mut pages, 1, false)?;
+    add_commit(alloc, &mut pages, 3, true)?;
+    let entry = entry_of(alloc, WHOLE)?;
+    let mut cache = BlockCache::new(alloc, 1, 1024)?;
+    let base = TxnBase {
+        entry,
+        number: 2,
+        block: 1024,
+        from: 0,
+        to: 2,
+    };
+    let txn = Txn::begin(alloc, base, &pages);
+    assert_eq!(rt; txn.size(), 3);
+    assert_eq!(rt; txn.place(&pages, &mut cache, 1), Place::Absent(WHOLE));
+    assert_eq!(rt; txn.place(&pages, &mut cache, 2), Place::Zeros);
+    assert_eq!(rt; txn.place(&pages, &mut cache, 3), Place::Local);
+    assert_eq!(rt; txn.place(&pages, &mut cache, 4), Place::BadPage);
+    assert!(rt; matches!(txn.look(&pages, &cache, 1), Look::NotHeld));
+    txn.end(&mut cache);
     Ok(())
 }
