@@ -1,5 +1,6 @@
 pub mod BaseBlocks
 pub mod CacheLaws
+pub mod CallKinds
 pub mod CallLaws
 pub mod FetchLaws
 pub mod HeldBlocks

@@ -1,4 +1,5 @@
 pub mod BlockFetch
+pub mod CallLaw
 pub mod FixedImage
 pub mod Opened
 pub mod Pins

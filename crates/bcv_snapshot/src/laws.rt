@@ -1,6 +1,7 @@
 //! The laws of transactions. Each function does nothing: its clause is the law, for proofs to cite.
 
 ghost use Rattle.bcv_snapshot.specs.FixedImage.{LooksAtFixedImage, PlacesInFixedImage, SizesAreFixed};
+ghost use Rattle.bcv_snapshot.specs.CallLaw.{CallsChangeNoImage};
 ghost use Rattle.bcv_snapshot.specs.Pins.{PinsStay};
 
 /// Whatever calls come between, in any order and by anybody, a page that a transaction shows, or leads to, is that of
@@ -10,6 +11,11 @@ pub fn image_is_fixed()
     ensures sizes { SizesAreFixed }
     ensures looks { LooksAtFixedImage }
     ensures places { PlacesInFixedImage }
+{}
+
+/// Each call of a transaction, and a fetch over a sound log, is one of the calls that leave an image as it was.
+pub fn calls_change_no_image()
+    ensures { CallsChangeNoImage }
 {}
 
 /// The pins of transactions stay where a block is found or comes in, and go by no order. A client that keeps several
