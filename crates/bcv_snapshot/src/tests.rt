@@ -55,8 +55,16 @@ fn a_cache_without_slots_is_full(rt: HostRuntime) -> Result<(), Fail> {
     Ok(())
 }
 
-// Holds the block of page 2 in a slot, looks at the page, and frees the block by page 1, which lies in it too.
-fn hold_and_free(rt: &impl Abort, mut txn: Txn, pages: &PageSet, cache: &mut BlockCache, slot: Slot)
+// Holds the block of page 2 in a slot, looks at the page while the cache is full, and frees the block by page 1, which
+// lies in it too.
+fn hold_and_free(
+    rt: &impl Abort,
+    alloc: Global,
+    mut txn: Txn,
+    pages: &PageSet,
+    cache: &mut BlockCache,
+    slot: Slot,
+)
     requires view { CanView pages.now txn.base.from txn.base.to }
     requires block { cache.old.block ≡ txn.base.block }
     requires none { txn.held ≡ [] }
@@ -64,12 +72,18 @@ fn hold_and_free(rt: &impl Abort, mut txn: Txn, pages: &PageSet, cache: &mut Blo
     requires entry { IsSomeAnd (block_id txn.base 2) (λ id. IsSlotOf slot id cache.old.entries) }
     requires pinnable { IsPinnable slot cache.old.entries }
 {
+    let mut store = MemStore::new(alloc);
+    let block = txn.base().block;
     assert!(rt; matches!(txn.look(pages, cache, 2), Look::NotHeld));
     let held = txn.hold(cache, 2, slot);
     assert!(rt; held.is_ok());
+    let full = fetch(alloc, &mut store, cache, NEVER_PUT, block);
+    assert_eq!(rt; full, Fetched::CacheFull);
     assert!(rt; matches!(txn.look(pages, cache, 2), Look::Page(_)));
     assert!(rt; txn.free(cache, 1));
     assert!(rt; !txn.free(cache, 2));
+    let gone = fetch(alloc, &mut store, cache, NEVER_PUT, block);
+    assert_eq!(rt; gone, Fetched::Gone);
     txn.end(cache);
 }
 
@@ -115,7 +129,7 @@ fn a_block_is_held(rt: HostRuntime) -> Result<(), Fail> {
         to: 0,
     };
     let txn = Txn::begin(alloc, base, &pages);
-    hold_and_free(&rt, txn, &pages, &mut cache, slot);
+    hold_and_free(&rt, alloc, txn, &pages, &mut cache, slot);
     Ok(())
 }
 
