@@ -1,5 +1,5 @@
 -- What each call says of the cache makes it a call that leaves an image as it was.
-use Rattle.std.proofs.Common.{◌≡◌, ℕ, Bool, true, false, List, Result, Ok, Err, ap, inl, inr}
+use Rattle.std.proofs.Common.{ℕ, Bool, true, false, List, Result, Ok, Err, ap, inl, inr}
 use Rattle.std.specs.declared.alloc.AllocError.{AllocError}
 use Rattle.bcv_base.specs.declared.id.Id16.{Id16}
 use Rattle.bcv_base.specs.History.{Item}

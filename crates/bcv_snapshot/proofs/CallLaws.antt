@@ -2,7 +2,6 @@
 use Rattle.std.proofs.Common.{◌≡◌, ◌∙◌, ℕ, ◌+◌, ◌-◌, Bool, true, false, cond, nat_eq, List, [], ◌∷◌, map, Option, Some, None, refl, sym, ap, subst, inl, inr}
 use Rattle.std.specs.List.{AllByRecursion, find}
 use Rattle.std.specs.Option.{option_map_or}
-use Rattle.std.proofs.lemmas.Bool.{cases_Bool}
 use Rattle.bcv_base.specs.declared.id.Id16.{Id16}
 use Rattle.bcv_base.specs.declared.seen.TxnBase.{TxnBase}
 use Rattle.bcv_base.specs.History.{Item, first_put}
@@ -14,16 +13,10 @@ use Rattle.bcv_cache.specs.Cache.{counted_down, counted_up, found_first, has_fre
 use Rattle.bcv_pages.specs.Held.{Held, view_of}
 use Rattle.bcv_snapshot.specs.FixedImage.{Moment, CanBegin, HasFirst, IsCacheCall, IsCall, AreCalls, fixed_image}
 use Rattle.bcv_snapshot.specs.Pins.{given_back}
+use Rattle.bcv_snapshot.proofs.CacheLaws.{found_in}
 use Rattle.bcv_snapshot.proofs.HeldBlocks.{all_imply, all_without}
 
 -- ---- entries of a cache after a call
-
-pub found_in : (P : Entry → Type 0) (test : Entry → Bool) (es : List Entry) (e : Entry) → AllByRecursion P es → find test es ≡ Some e → P e
-found_in P test [] e all found = absurd (cc)
-found_in P test (x ∷ xs) e all found = elim (cases_Bool (test x)) [
-  | inl t ↦ let same : x ≡ e = (let some = rw t at found in cc) in subst P same all.0
-  | inr t ↦ found_in P test xs e all.1 (rw t at found)
-]
 
 pub all_found_first : (P : Entry → Type 0) (id : Id16) (es : List Entry) → AllByRecursion P es → AllByRecursion P (found_first id es)
 all_found_first P id es all = by (find (entry_has_id id) es) refl

@@ -27,7 +27,8 @@ use Rattle.bcv_snapshot.specs.Opened.{Opened, IsTxn, has_block_number, block_id,
 use Rattle.bcv_snapshot.specs.Pins.{HasPins}
 use Rattle.bcv_snapshot.specs.TxnCalls.{TxnLooks, TxnPlaces}
 use Rattle.bcv_snapshot.proofs.BaseBlocks.{from_base}
-use Rattle.bcv_snapshot.proofs.CallLaws.{all_found_first, calls_keep, found_in, image_kept}
+use Rattle.bcv_snapshot.proofs.CacheLaws.{found_in}
+use Rattle.bcv_snapshot.proofs.CallLaws.{all_found_first, calls_keep, image_kept}
 use Rattle.bcv_snapshot.proofs.PageOfBlock.{length_pages, page_read}
 
 -- ---- pages of the image, by where they come from
