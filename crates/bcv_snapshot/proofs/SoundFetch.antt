@@ -24,6 +24,7 @@ use Rattle.bcv_publish.proofs.Growth.{later_of, growth_of}
 use Rattle.bcv_store.specs.StoreShown.{StoreTold, StoreShown}
 use Rattle.bcv_snapshot.specs.declared.fetched.Fetched.{Fetched}
 use Rattle.bcv_snapshot.specs.declared.fetched.Fetched.TheVariants as fetched
+use Rattle.bcv_snapshot.specs.FixedImage.{VersionsArePut}
 use Rattle.bcv_snapshot.specs.BlockFetch.{FetchEnds, BlockGetTold, IsMissing, IsOtherBlock, SoundFetchEnds, BlockGetSound}
 
 -- a block that a published version lists was put, with that version's block size
@@ -31,6 +32,10 @@ pub published_has : (m : Manifest) (i : Id16) (past : List Item) → Always Read
 published_has m i past reads listed p =
     by_published (λ (l : List Item). Always Reads l → HasBlock l i m.block) m (λ before r. has_block-stays (Published m) before i m.block (r.1.blocks i listed))
     (λ x before has r. has_block-stays x before i m.block (has r.0)) past p reads
+
+pub versions_are_put : VersionsArePut
+versions_are_put past m base s published among block = λ i has.
+    subst (HasBlock past i) (sym block) (published_has m i past s.reads (lists_among m.dbs base.entry i among has) published)
 
 published_at : (later before : List Item) (m : Manifest) → IsPublished m (later ++ Published m ∷ before)
 published_at [] before m = inl refl

@@ -3,6 +3,7 @@
 use Rattle.std.specs.Prelude.{length, ◌≡◌, ◌⊎◌, ℕ, true, List, [], ◌∷◌, map, Option, Some, None}
 use Rattle.std.specs.List.{AllByRecursion}
 use Rattle.bcv_base.specs.declared.id.Id16.{Id16}
+use Rattle.bcv_base.specs.declared.manifest.Manifest.{Manifest}
 use Rattle.bcv_base.specs.declared.seen.TxnBase.{TxnBase}
 use Rattle.bcv_base.specs.History.{Item, HasBlock, first_put}
 use Rattle.bcv_base.specs.Ids.{has_id}
@@ -11,6 +12,9 @@ use Rattle.bcv_base.specs.Joined.{image_of}
 use Rattle.bcv_base.specs.Views.{view_size}
 use Rattle.bcv_cache.specs.Entry.{Entry, Blocks}
 use Rattle.bcv_cache.specs.Cache.{counted_down, counted_up, filled, found_first}
+use Rattle.bcv_dbmap.specs.Outlived.{IsPublished}
+use Rattle.bcv_dbmap.specs.Past.{IsAmong}
+use Rattle.bcv_dbmap.specs.Sound.{Sound}
 use Rattle.bcv_pages.specs.Held.{Held, CanView, KeepsView, view_of}
 use Rattle.bcv_snapshot.specs.declared.held_block.HeldBlock.{HeldBlock}
 use Rattle.bcv_snapshot.specs.declared.look.Look.{Look}
@@ -90,6 +94,11 @@ PlacesPage past base p o place.Local d = (bytes : Page) × (o ≡ Some bytes)
 PlacesPage past base p o place.Zeros d = o ≡ Some (zeros base.entry.page_size)
 PlacesPage past base p o (place.Cached slot) d = (bytes : Page) → IsPageIn base d slot p bytes → o ≡ Some bytes
 PlacesPage past base p o (place.Absent id) d = (bytes : List ℕ) × (first_put past id ≡ Some bytes) × (o ≡ Some (page_bytes base p bytes))
+
+-- the blocks of an entry of a version in a sound log were put, with the block size
+abbrev pub VersionsArePut : Type 0
+VersionsArePut =
+    (past : List Item) (m : Manifest) (base : TxnBase) → Sound past → IsPublished m past → IsAmong base.entry m.dbs → base.block ≡ m.block → ArePut past base
 
 -- the size of a view is that of its image
 abbrev pub SizesAreFixed : Type 0

@@ -42,7 +42,7 @@ pub fn fetch<S: Store>(
     take_answer(alloc, cache, id, block, got, bytes)
 }
 
-// What an answer of the store comes to, with the bytes that it left.
+// The answer to a fetch that follows from an answer of the store, with the bytes that it left.
 fn take_answer(
     alloc: Global,
     cache: &mut BlockCache,

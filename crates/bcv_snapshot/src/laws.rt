@@ -1,6 +1,6 @@
 //! The laws of transactions. Each function does nothing: its clause is the law, for proofs to cite.
 
-ghost use Rattle.bcv_snapshot.specs.FixedImage.{LooksAtFixedImage, PlacesInFixedImage, SizesAreFixed};
+ghost use Rattle.bcv_snapshot.specs.FixedImage.{LooksAtFixedImage, PlacesInFixedImage, SizesAreFixed, VersionsArePut};
 ghost use Rattle.bcv_snapshot.specs.CallLaw.{CallsChangeNoImage};
 ghost use Rattle.bcv_snapshot.specs.Pins.{PinsStay};
 
@@ -8,6 +8,7 @@ ghost use Rattle.bcv_snapshot.specs.Pins.{PinsStay};
 /// the image at its begin: a function of the base, of the commits of its view, and of the bytes first put under the
 /// base's ids.
 pub fn image_is_fixed()
+    ensures begins { VersionsArePut }
     ensures sizes { SizesAreFixed }
     ensures looks { LooksAtFixedImage }
     ensures places { PlacesInFixedImage }
