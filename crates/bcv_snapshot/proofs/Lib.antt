@@ -1,0 +1,11 @@
+pub mod BaseBlocks
+pub mod CacheLaws
+pub mod CallKinds
+pub mod CallLaws
+pub mod FetchLaws
+pub mod HeldBlocks
+pub mod ImageLaws
+pub mod PageOfBlock
+pub mod PinLaws
+pub mod SoundFetch
+pub mod TxnLaws
