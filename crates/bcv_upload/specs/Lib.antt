@@ -1,0 +1,5 @@
+pub mod BlockText
+pub mod State
+pub mod UploadDescent
+pub mod UploadPut
+pub mod UploadWork
