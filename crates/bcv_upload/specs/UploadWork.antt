@@ -1,5 +1,6 @@
 -- A step of an upload before the manifest's put: the manifest's get, the get of a block's old bytes, or the put of a block.
-use Rattle.std.specs.Prelude.{◌≡◌, ◌≢◌, ◌≤◌, ℕ, Bool, true, false, ◌&&◌, List, [], ◌∷◌, ◌++◌, length, find, Option, Some, None, is_none, option_map, unwrap_or, IfSome, if◌then◌else◌}
+use Rattle.std.specs.Prelude.{◌≡◌, ◌≢◌, ◌≤◌, ℕ, Bool, true, false, ◌&&◌, List, [], ◌∷◌, ◌++◌, length, find, Result, Ok, Err, Option, Some, None, is_none, option_map, unwrap_or, IfSome, if◌then◌else◌}
+use Rattle.std.specs.Global.{Vec}
 use Rattle.bcv_base.specs.declared.id.Id16.{Id16}
 use Rattle.bcv_base.specs.declared.log.Entry.{Entry}
 use Rattle.bcv_base.specs.declared.manifest.Manifest.{Manifest}
@@ -135,15 +136,15 @@ FetchEnds o x block work.StoreFault kept = o ≢ outcome.Ok
 FetchEnds o x block work.NoMemory kept = Unit {0}
 FetchEnds o x block _ kept = ⊥
 
--- what is answered where the get of a block was
-abbrev pub FetchAnswered : Got → List ℕ → ℕ → Work → Option (List ℕ) → Type 0
-FetchAnswered (got.Found etag) bytes block work.More kept = (length bytes ≡ block) × (kept ≡ Some bytes)
-FetchAnswered (got.Found etag) bytes block (work.BadBlock len) kept = (length bytes ≡ len) × (len ≢ block)
-FetchAnswered got.Missing bytes block work.Gone kept = Unit {0}
-FetchAnswered (got.TooLong n) bytes block (work.BadBlock len) kept = len ≡ n
-FetchAnswered got.Failed bytes block work.StoreFault kept = Unit {0}
-FetchAnswered got.NoMemory bytes block work.NoMemory kept = Unit {0}
-FetchAnswered g bytes block result kept = ⊥
+-- what is made of the store's answer to the get of a block
+abbrev pub FetchAnswered : Got → List ℕ → ℕ → Result (Vec ℕ) Work → Type 0
+FetchAnswered (got.Found etag) bytes block (Ok kept) = (kept.items ≡ bytes) × (length bytes ≡ block)
+FetchAnswered (got.Found etag) bytes block (Err result) = (result ≡ work.BadBlock (length bytes)) × (length bytes ≢ block)
+FetchAnswered got.Same bytes block result = ⊥
+FetchAnswered got.Missing bytes block result = result ≡ Err work.Gone
+FetchAnswered (got.TooLong len) bytes block result = result ≡ Err (work.BadBlock len)
+FetchAnswered got.Failed bytes block result = result ≡ Err work.StoreFault
+FetchAnswered got.NoMemory bytes block result = result ≡ Err work.NoMemory
 
 -- the get of a block from a store that tells its log
 pub record FetchTold (store : StoreTold) (old new : StoreShown) (id : Id16) (block : ℕ) (result : Work) (kept : Option (List ℕ)) : Type 0 where

@@ -26,28 +26,30 @@ impl Upload {
         let mut bytes = Vec::new(alloc);
         let block = self.base.block as usize;
         let got = store.get(alloc, &ObjName::Block(id), None, &mut bytes, block);
-        let work = fetched(got, &bytes, self.base.block);
-        if matches!(work, Work::More) {
-            self.fetched = Some(bytes);
+        match whole_block(got, bytes, block) {
+            Ok(bytes) => {
+                self.fetched = Some(bytes);
+                Work::More
+            }
+            Err(work) => work,
         }
-        work
     }
 }
 
-// What an answer of the store is, with the bytes that it left.
-fn fetched(got: Got, bytes: &[u8], block: u32) -> Work
-    requires { IsGotWithin None block bytes.now got }
-    ensures { FetchAnswered got bytes.now block result }
+// The bytes of a block that a get brought, or why there are none.
+fn whole_block(got: Got, bytes: Vec<u8>, block: usize) -> Result<Vec<u8>, Work>
+    requires { IsGotWithin None block bytes.items got }
+    ensures { FetchAnswered got bytes.items block result }
 {
     match got {
-        Got::Found(_) if bytes.len() as u64 == block as u64 => Work::More,
-        Got::Found(_) => Work::BadBlock {
+        Got::Found(_) if bytes.len() == block => Ok(bytes),
+        Got::Found(_) => Err(Work::BadBlock {
             len: bytes.len() as u64,
-        },
+        }),
         Got::Same => unreachable!(),
-        Got::Missing => Work::Gone,
-        Got::TooLong(len) => Work::BadBlock { len },
-        Got::Failed => Work::StoreFault,
-        Got::NoMemory => Work::NoMemory,
+        Got::Missing => Err(Work::Gone),
+        Got::TooLong(len) => Err(Work::BadBlock { len }),
+        Got::Failed => Err(Work::StoreFault),
+        Got::NoMemory => Err(Work::NoMemory),
     }
 }
