@@ -98,7 +98,8 @@ impl Upload {
 
     // The manifest's requests that are left.
     fn manifest_requests(&self) -> u32
-        ensures { result ≡ manifest_requests self.now.publish.latest }
+        ensures requests { result ≡ manifest_requests self.now.publish.latest }
+        ensures few { result ≤ 2 }
     {
         match self.publish.latest() {
             Some(_) => 1,
