@@ -1,5 +1,5 @@
 -- Which blocks a view has, and which of them are touched.
-use Rattle.std.proofs.Common.{◌≡◌, ◌∙◌, ◌⊎◌, inl, inr, ℕ, zero, suc, ◌+◌, ◌-◌, ◌*◌, ◌/◌, ◌<◌, ◌≤◌, Bool, true, false, ◌==◌, ◌||◌, cond, List, [], ◌∷◌, length, nat_lt, refl, sym, ap, subst, arith}
+use Rattle.std.proofs.Common.{◌≡◌, ◌∙◌, ◌⊎◌, inl, inr, ℕ, zero, suc, ◌+◌, ◌-◌, ◌*◌, ◌/◌, ◌<◌, ◌≤◌, Bool, true, false, ◌==◌, ◌||◌, cond, List, [], ◌∷◌, length, get_or, refl, sym, ap, subst, arith}
 use Rattle.std.specs.Int.{div_ceil}
 use Rattle.std.specs.List.{AllByRecursion, filter, range_with_len}
 use Rattle.std.proofs.lemmas.Bool.{cases_lt, eqb-true, ne_eqb}
@@ -171,3 +171,9 @@ touched_local base view size touched n full v below =
 -- there are no more touched blocks than blocks
 pub touched_few : (s : State) → IsTask s → length s.touched ≤ 65536
 touched_few s t = omega (arith, (touched_are s.base t.view s.size s.touched (full_of s.base t.base) t.of_view).few, t.few)
+
+-- what holds of all numbers of a list holds of the one at a place
+pub all_at : (P : ℕ → Type 0) (ns : List ℕ) (k : ℕ) → AllByRecursion P ns → k < length ns → P (get_or ns k 0)
+all_at P [] k all there = absurd (omega (arith, there))
+all_at P (n ∷ ns) zero all there = all.0
+all_at P (n ∷ ns) (suc k) all there = all_at P ns k all.1 (omega (arith, there))

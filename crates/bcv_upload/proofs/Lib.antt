@@ -1,2 +1,3 @@
+pub mod BlockIds
 pub mod BlockNumbers
 pub mod Powers
