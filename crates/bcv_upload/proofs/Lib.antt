@@ -1,3 +1,5 @@
 pub mod BlockIds
 pub mod BlockNumbers
+pub mod BlockTexts
 pub mod Powers
+pub mod Ranges

@@ -1,5 +1,5 @@
 //! The bytes of a block of a view.
-ghost use Rattle.std.specs.Prelude.{◌≡◌, ◌≤◌, ◌<◌, ◌+◌, ◌-◌, ◌*◌, true, min, length, vec_len, IfOk, OnOk, ◌++◌, IsOk, is_ok, if◌then◌else◌};
+ghost use Rattle.std.specs.Prelude.{◌≡◌, ◌≤◌, ◌<◌, ◌+◌, ◌-◌, ◌*◌, ◌^◌, true, min, length, vec_len, IfOk, OnOk, ◌++◌, IsOk, is_ok, if◌then◌else◌};
 ghost use Rattle.bcv_base.specs.Image.{is_base, zeros};
 ghost use Rattle.bcv_base.specs.Views.{origin, page_from, view_size};
 ghost use Rattle.bcv_pages.specs.Held.{CanView};
@@ -19,11 +19,7 @@ pub(crate) fn has_base(base: &TxnBase, pages: &PageSet, number: u32) -> bool
 {
     let (before, count) = page_span(base, pages, number);
     for place in 0..count {
-        let page = before + place + 1;
-        if matches!(
-            pages.find(base.entry.pages, base.from, base.to, page),
-            PageAt::Base
-        ) {
+        if is_base(base, pages, before + place + 1) {
             return true;
         }
     }
@@ -56,6 +52,20 @@ pub(crate) fn view_block(
     Ok(bytes)
 }
 
+// Whether a page of a view is the base's.
+fn is_base(base: &TxnBase, pages: &PageSet, page: u32) -> bool
+    requires view { CanView pages.now base.now.from base.now.to }
+    requires first { 1 ≤ page }
+    requires last { page ≤ view_size base.now.entry.pages (view_in pages.now base.now) }
+    ensures { result ≡ is_base base.now.entry.pages (view_in pages.now base.now) page }
+{
+    match pages.find(base.entry.pages, base.from, base.to, page) {
+        PageAt::Base => true,
+        PageAt::Zeros => false,
+        PageAt::Local(_) => false,
+    }
+}
+
 // How many pages of a view stand before a block, and how many it holds.
 fn page_span(base: &TxnBase, pages: &PageSet, number: u32) -> (u32, u32)
     requires base { IsBase base.now }
@@ -64,6 +74,7 @@ fn page_span(base: &TxnBase, pages: &PageSet, number: u32) -> (u32, u32)
     ensures before { result.0 ≡ number * per_block base.now }
     ensures count { result.1 ≡ min (per_block base.now) (view_size base.now.entry.pages (view_in pages.now base.now) - number * per_block base.now) }
     ensures within { result.0 + result.1 ≤ view_size base.now.entry.pages (view_in pages.now base.now) }
+    ensures small { result.0 + result.1 < 2 ^ 32 }
 {
     let per_block = base.block / base.entry.page_size;
     let size = pages.size(base.entry.pages, base.from, base.to);
