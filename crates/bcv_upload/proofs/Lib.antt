@@ -1,5 +1,6 @@
 pub mod BlockIds
 pub mod BlockNumbers
 pub mod BlockTexts
+pub mod NextTexts
 pub mod Powers
 pub mod Ranges

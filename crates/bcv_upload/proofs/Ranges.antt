@@ -54,3 +54,13 @@ same_text f g a zero same = refl
 same_text f g a (suc n) same =
     ap (λ (xs : List ℕ). xs ++ flat_map f (range_with_len (a + 1) n)) (sym (ap f (none_more a)) ∙ same 0 (omega arith) ∙ ap g (none_more a))
     ∙ ap (λ (xs : List ℕ). g a ++ xs) (same_text f g (a + 1) n (λ k within. ap f (one_more a k) ∙ same (suc k) (omega (arith, within)) ∙ sym (ap g (one_more a k))))
+
+-- a place where a test passes
+pub any_found : (test : ℕ → Bool) (a n : ℕ) → list_any test (range_with_len a n) ≡ true → (k : ℕ) × (test (a + k) ≡ true)
+any_found test a zero is = absurd (cc)
+any_found test a (suc n) is = by_first (test a) refl is (any_found test (a + 1) n)
+  where
+    by_first : (b : Bool) → test a ≡ b → (b || list_any test (range_with_len (a + 1) n)) ≡ true → (list_any test (range_with_len (a + 1) n) ≡ true → (k : ℕ) × (test ((a + 1) + k) ≡ true))
+        → (k : ℕ) × (test (a + k) ≡ true)
+    by_first true here is later = (0, ap test (none_more a) ∙ here)
+    by_first false here is later = let f = later is in (suc f.0, ap test (sym (one_more a f.0)) ∙ f.1)

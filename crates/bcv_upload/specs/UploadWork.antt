@@ -1,6 +1,7 @@
 -- A step of an upload before the manifest's put: the manifest's get, the get of a block's old bytes, or the put of a block.
 use Rattle.std.specs.Prelude.{◌≡◌, ◌≢◌, ◌≤◌, ℕ, Bool, true, false, ◌&&◌, List, [], ◌∷◌, ◌++◌, length, find, Result, Ok, Err, Option, Some, None, is_none, option_map, unwrap_or, IfSome, if◌then◌else◌}
 use Rattle.std.specs.Global.{Vec}
+use Rattle.std.specs.declared.alloc.AllocError.{AllocError}
 use Rattle.bcv_base.specs.declared.id.Id16.{Id16}
 use Rattle.bcv_base.specs.declared.log.Entry.{Entry}
 use Rattle.bcv_base.specs.declared.manifest.Manifest.{Manifest}
@@ -40,46 +41,54 @@ use Rattle.bcv_upload.specs.State.{State, asked_plan, base_id, next_block, old_i
 
 -- ---- which step it is
 
--- the next block holds a page of the base
-abbrev pub needs_old : List Writes → State → Bool
-needs_old view s = has_base s.base view (next_block s)
-
--- its old bytes are looked for in the cache: it needs them, and no get brought them
-abbrev pub asks_cache : List Writes → State → Bool
-asks_cache view s = needs_old view s && is_none s.fetched
-
--- they are not there, so a get brings them
-abbrev pub is_fetch : List Writes → Blocks → State → Bool
-is_fetch view c s = asks_cache view s && is_none (slot_of (old_id s) c.entries)
-
 -- the bytes of a block in a cache
 abbrev pub cached_bytes : Id16 → List cache.Entry → Option (List ℕ)
 cached_bytes i es = option_map (λ e. e.bytes) (find (has_id i) es)
 
--- the old bytes over which the next block is made
-abbrev pub old_bytes : List Writes → Blocks → State → List ℕ
-old_bytes view c s = if needs_old view s then unwrap_or (or_else s.fetched (cached_bytes (old_id s) c.entries)) [] else []
+-- the old bytes of a block are looked for in the cache: it holds a page of the base, and no get brought them
+abbrev pub asks_cache : TxnBase → List Writes → ℕ → Option (List ℕ) → Bool
+asks_cache base view n fetched = has_base base view n && is_none fetched
 
--- the bytes of the next block
-abbrev pub next_text : List Writes → Blocks → State → List ℕ
-next_text view c s = view_block s.base view (old_bytes view c s) (next_block s)
+-- they are not there, so a get brings them
+abbrev pub asks_store : TxnBase → List Writes → ℕ → Option (List ℕ) → List cache.Entry → Bool
+asks_store base view n fetched es = asks_cache base view n fetched && is_none (slot_of (base_id base n) es)
 
--- what a step has before its request: the bytes of the next block, or the id of old bytes that have to be fetched
-abbrev pub IsNext : List Writes → Blocks → State → NextText → Type 0
-IsNext view c s (next.Made bytes) = (is_fetch view c s ≡ false) × (bytes.items ≡ next_text view c s) × (length bytes.items ≡ s.base.block)
-IsNext view c s (next.Missing i) = (is_fetch view c s ≡ true) × (i ≡ old_id s)
-IsNext view c s next.NoMemory = is_fetch view c s ≡ false
+-- the old bytes over which a block is made
+abbrev pub old_bytes : TxnBase → List Writes → ℕ → Option (List ℕ) → List cache.Entry → List ℕ
+old_bytes base view n fetched es = if has_base base view n then unwrap_or (or_else fetched (cached_bytes (base_id base n) es)) [] else []
 
--- ---- whatever the store
+-- the bytes of a block
+abbrev pub text_of : TxnBase → List Writes → ℕ → Option (List ℕ) → List cache.Entry → List ℕ
+text_of base view n fetched es = view_block base view (old_bytes base view n fetched es) n
 
 -- the cache after a block was looked for: one that was found comes first
-abbrev pub cache_asked : List Writes → State → Blocks → Blocks
-cache_asked view s c = if asks_cache view s then record c { entries = found_first (old_id s) c.entries } else c
+abbrev pub cache_asked : TxnBase → List Writes → ℕ → Option (List ℕ) → Blocks → Blocks
+cache_asked base view n fetched c = if asks_cache base view n fetched then record c { entries = found_first (base_id base n) c.entries } else c
+
+-- what there is of a block before its request: its bytes, or the id of old bytes that have to be fetched
+abbrev pub IsNext : TxnBase → List Writes → ℕ → Option (List ℕ) → List cache.Entry → NextText → Type 0
+IsNext base view n fetched es (next.Made bytes) =
+    (asks_store base view n fetched es ≡ false) × (bytes.items ≡ text_of base view n fetched es) × (length bytes.items ≡ base.block)
+IsNext base view n fetched es (next.Missing i) = (asks_store base view n fetched es ≡ true) × (i ≡ base_id base n)
+IsNext base view n fetched es next.NoMemory = asks_store base view n fetched es ≡ false
+
+abbrev pub made_text : Result (Vec ℕ) AllocError → NextText
+made_text (Ok bytes) = next.Made bytes
+made_text (Err e) = next.NoMemory
+
+-- of the next block of an upload
+abbrev pub is_fetch : List Writes → Blocks → State → Bool
+is_fetch view c s = asks_store s.base view (next_block s) s.fetched c.entries
+
+abbrev pub next_text : List Writes → Blocks → State → List ℕ
+next_text view c s = text_of s.base view (next_block s) s.fetched c.entries
+
+-- ---- whatever the store
 
 -- the cache after a step: the manifest's get does not look at it
 abbrev pub cache_after : Option Latest → List Writes → State → Blocks → Blocks
 cache_after None view s c = c
-cache_after (Some l) view s c = cache_asked view s c
+cache_after (Some l) view s c = cache_asked s.base view (next_block s) s.fetched c
 
 -- the publication after a get
 abbrev pub with_publish : State → publish.State → State

@@ -4,7 +4,7 @@ ghost use Rattle.bcv_publish.specs.ManifestGet.{GetLeaves, ManifestGets};
 ghost use Rattle.bcv_upload.specs.State.{HoldsView, IsRunning, IsTask, asked_plan, is_ready, view_in};
 ghost use Rattle.bcv_upload.specs.UploadWork.{TaskWorks, WorkLeaves, cache_after, is_fetch, with_publish};
 
-use crate::next_text::NextText;
+use crate::next_text::{NextText, next_text};
 use crate::upload::Upload;
 use bcv_base::{Names, Seen};
 use bcv_cache::BlockCache;
@@ -43,7 +43,8 @@ impl Upload {
         if self.publish.latest().is_none() {
             return self.read(alloc, store, seen);
         }
-        match self.next_text(alloc, pages, cache) {
+        let number = self.touched[self.ids.len()];
+        match next_text(alloc, &self.base, pages, number, &self.fetched, cache) {
             NextText::Made(bytes) => self.put_block(alloc, store, names, &bytes),
             NextText::Missing(id) => self.fetch(alloc, store, id),
             NextText::NoMemory => Work::NoMemory,
