@@ -4,3 +4,4 @@ pub mod BlockTexts
 pub mod NextTexts
 pub mod Powers
 pub mod Ranges
+pub mod Tasks

@@ -31,9 +31,11 @@ impl Upload {
     {
         let number = self.touched[self.ids.len()];
         let end = put_named(alloc, store, names, bytes, &mut self.ids);
-        if matches!(end, BlockEnd::Stored) {
-            list_block(alloc, &mut self.plan, number, self.ids[self.ids.len() - 1]);
+        if let BlockEnd::Stored = end {
+            let id = self.ids[self.ids.len() - 1];
+            list_block(alloc, &mut self.plan, number, id);
             self.fetched = None;
+            return Work::More;
         }
         end.work()
     }
