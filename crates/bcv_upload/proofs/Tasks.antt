@@ -8,13 +8,21 @@ use Rattle.std.proofs.lemmas.List.FromFn.{length-map-range_with_len}
 use Rattle.std.proofs.Math.Seq.{get_or-append_seam}
 use Rattle.std.proofs.lemmas.Option.{unwrap_or-slice_get}
 use Rattle.bcv_base.specs.declared.id.Id16.{Id16}
+use Rattle.bcv_base.specs.declared.manifest.Manifest.{Manifest}
 use Rattle.bcv_base.specs.declared.seen.Latest.{Latest}
 use Rattle.bcv_base.specs.declared.seen.Seen.{Seen}
 use Rattle.bcv_base.specs.Ids.{IsId}
 use Rattle.bcv_dbmap.specs.declared.plan.EditPlan.{EditPlan}
 use Rattle.bcv_dbmap.specs.declared.plan.EditPlan.TheVariants as edit
 use Rattle.bcv_dbmap.specs.Checked.{checked}
-use Rattle.bcv_upload.specs.State.{State, HasPlace, IsFetched, IsTask, IsUpload, Passed, asked_plan, block_id, entry_with, ids_with, listed_at, needed, next_block, plan_of, with_block}
+use Rattle.bcv_publish.specs.declared.work.Work.{Work}
+use Rattle.bcv_publish.specs.declared.work.Work.TheVariants as work
+use Rattle.bcv_publish.specs.ManifestGet.{GetLeaves}
+use Rattle.bcv_publish.specs.ManifestRead.{unlike, is_other, is_past}
+use Rattle.bcv_publish.specs.State.{with_latest}
+use Rattle.bcv_publish.specs.State as publish
+use Rattle.bcv_upload.specs.State.{State, HasPlace, IsFetched, IsTask, IsUpload, Passed, asked_plan, block_id, entry_with, ids_with, listed_at, needed, next_block, plan_of, plan_with, with_block}
+use Rattle.bcv_upload.specs.UploadWork.{with_publish}
 use Rattle.bcv_upload.proofs.BlockIds.{ids_more}
 use Rattle.bcv_upload.proofs.BlockNumbers.{TouchedAre, all_at, full_of, touched_are}
 
@@ -86,3 +94,93 @@ last_read ids new i d is =
 -- a number that is read at a place
 pub number_read : (ns : List ℕ) (n k j : ℕ) → n ≡ get_or ns k n → k ≡ j → j < length ns → n ≡ get_or ns j 0
 number_read ns n k j read is within = read ∙ ap (λ (x : ℕ). get_or ns x n) is ∙ get_or_default_zero ns j n within
+
+-- ---- the manifest's get
+
+-- a publication with the same names
+pub record SameNames (p q : publish.State) : Type 0 where
+  pub id : q.id ≡ p.id
+  pub writer : q.writer ≡ p.writer
+
+same_names : (p q : publish.State) → q ≡ p → SameNames p q
+same_names p q is = record { id = ap (λ (x : publish.State). x.id) is; writer = ap (λ (x : publish.State). x.writer) is }
+
+get_names : (seen : Seen) (plan : EditPlan) (p : publish.State) (result : Work) (q : publish.State) → GetLeaves seen plan p result q → SameNames p q
+get_names seen plan p work.More q leaves = record { id = ap (λ (x : publish.State). x.id) leaves.5; writer = ap (λ (x : publish.State). x.writer) leaves.5 }
+get_names seen plan p (work.Fault f) q leaves = same_names p q leaves
+get_names seen plan p work.NoContainer q leaves = same_names p q leaves
+get_names seen plan p (work.BadManifest at) q leaves = same_names p q leaves
+get_names seen plan p work.StoreFault q leaves = same_names p q leaves
+get_names seen plan p work.NoMemory q leaves = same_names p q leaves
+get_names seen plan p work.Nothing q leaves = absurd leaves
+get_names seen plan p work.Gone q leaves = absurd leaves
+get_names seen plan p (work.BadBlock len) q leaves = absurd leaves
+get_names seen plan p work.NameTaken q leaves = absurd leaves
+get_names seen plan p work.NamesFault q leaves = absurd leaves
+get_names seen plan p work.ClockFault q leaves = absurd leaves
+
+-- a manifest that is taken has the block size that was seen
+not_other : (a b c : Bool) → ◌≡◌ {A = Option ℕ} (cond a (Some 8) (cond (b || c) (Some 24) None)) None → b ≡ false
+not_other true b c h = absurd (cc)
+not_other false true c h = absurd (cc)
+not_other false false true h = absurd (cc)
+not_other false false false h = refl
+
+seen_block : (p : publish.State) (seen : Seen) (m : Manifest) (block : ℕ) → seen.block ≡ Some block → unlike p seen m ≡ None → m.block ≡ block
+seen_block p seen m block is like =
+    let other : is_other seen.block m.block ≡ false = not_other (nat_lt m.number seen.number || is_past (publish.last_number p.refused) m.number) (is_other seen.block m.block) (is_other p.block m.block) like in
+    let known : is_other (Some block) m.block ≡ false = sym (ap (λ (o : Option ℕ). is_other o m.block) is) ∙ other in
+    sym (eqb-true block m.block (not_not (block == m.block) known))
+  where
+    not_not : (b : Bool) → not b ≡ false → b ≡ true
+    not_not true h = refl
+    not_not false h = absurd (cc)
+
+-- with another publication, under the same id
+task_publish : (s : State) (p : publish.State) → IsTask s → p.id ≡ s.publish.id → (s.published ≡ false → IfSome p.latest (Passed (with_publish s p))) → IsTask (with_publish s p)
+task_publish s p t id read = record {
+  base = t.base;
+  small = t.small;
+  few = t.few;
+  view = t.view;
+  of_view = t.of_view;
+  id = subst IsId (sym id) t.id;
+  ids = t.ids;
+  most = t.most;
+  fetched = fetched_later s.fetched t.fetched;
+  read = read;
+}
+  where
+    fetched_later : (o : Option (List ℕ)) → IfSome o (IsFetched s) → IfSome o (IsFetched (with_publish s p))
+    fetched_later None f = tt
+    fetched_later (Some bytes) f = record { whole = f.whole; more = f.more }
+
+read_other : (s : State) (p : publish.State) → IsTask s → p ≡ s.publish → IsTask (with_publish s p)
+read_other s p t is = subst (λ (x : publish.State). IsTask (with_publish s x)) (sym is) t
+
+task_read : (seen : Seen) (s : State) (result : Work) (p : publish.State) → IsTask s → seen.block ≡ Some s.base.block → GetLeaves seen (asked_plan s) s.publish result p → IsTask (with_publish s p)
+task_read seen s work.More p t block leaves =
+    subst (λ (x : publish.State). IsTask (with_publish s x)) (sym leaves.5)
+    (task_publish s (with_latest s.publish leaves.0) t refl
+    (λ waits. record { block = seen_block s.publish seen leaves.0.manifest s.base.block block leaves.3; rules = leaves.1; limits = leaves.2; passes = leaves.4 }))
+task_read seen s (work.Fault f) p t block leaves = read_other s p t leaves
+task_read seen s work.NoContainer p t block leaves = read_other s p t leaves
+task_read seen s (work.BadManifest at) p t block leaves = read_other s p t leaves
+task_read seen s work.StoreFault p t block leaves = read_other s p t leaves
+task_read seen s work.NoMemory p t block leaves = read_other s p t leaves
+task_read seen s work.Nothing p t block leaves = absurd leaves
+task_read seen s work.Gone p t block leaves = absurd leaves
+task_read seen s (work.BadBlock len) p t block leaves = absurd leaves
+task_read seen s work.NameTaken p t block leaves = absurd leaves
+task_read seen s work.NamesFault p t block leaves = absurd leaves
+task_read seen s work.ClockFault p t block leaves = absurd leaves
+
+-- the plans are the same under the same id
+pub plan_later : (s : State) (ids : List Id16) (p : publish.State) → p.id ≡ s.publish.id → plan_with s ids ≡ plan_with (with_publish s p) ids
+plan_later s ids p id = ap (λ (i : Id16). edit.Upload s.base.entry.tag (entry_with s.base s.size s.touched ids i)) (sym id)
+
+pub upload_read : (seen : Seen) (s : State) (asked plan : EditPlan) (result : Work) (p : publish.State) → IsUpload s asked plan → seen.block ≡ Some s.base.block → GetLeaves seen asked s.publish result p → IsUpload (with_publish s p) asked plan
+upload_read seen s asked plan result p u block leaves =
+    let left : GetLeaves seen (asked_plan s) s.publish result p = subst (λ (x : EditPlan). GetLeaves seen x s.publish result p) u.asked_is leaves in
+    let id = (get_names seen (asked_plan s) s.publish result p left).id in
+    record { task = task_read seen s result p u.task block left; asked_is = u.asked_is ∙ plan_later s [] p id; plan_is = u.plan_is ∙ plan_later s s.ids p id }
