@@ -1,6 +1,7 @@
 pub mod BlockIds
 pub mod BlockNumbers
 pub mod BlockTexts
+pub mod EntryIds
 pub mod NextTexts
 pub mod Powers
 pub mod Ranges

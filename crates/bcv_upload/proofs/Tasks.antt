@@ -14,16 +14,21 @@ use Rattle.bcv_base.specs.declared.seen.Seen.{Seen}
 use Rattle.bcv_base.specs.Ids.{IsId}
 use Rattle.bcv_dbmap.specs.declared.plan.EditPlan.{EditPlan}
 use Rattle.bcv_dbmap.specs.declared.plan.EditPlan.TheVariants as edit
+use Rattle.bcv_dbmap.specs.Applied.{FitsPlan}
 use Rattle.bcv_dbmap.specs.Checked.{checked}
+use Rattle.bcv_dbmap.specs.Filled.{Fills}
+use Rattle.bcv_dbmap.proofs.Limits.{applied_meets_limits}
 use Rattle.bcv_publish.specs.declared.work.Work.{Work}
 use Rattle.bcv_publish.specs.declared.work.Work.TheVariants as work
 use Rattle.bcv_publish.specs.ManifestGet.{GetLeaves}
+use Rattle.bcv_publish.specs.ManifestPut.{IsReady}
 use Rattle.bcv_publish.specs.ManifestRead.{unlike, is_other, is_past}
 use Rattle.bcv_publish.specs.State.{with_latest}
 use Rattle.bcv_publish.specs.State as publish
-use Rattle.bcv_upload.specs.State.{State, HasPlace, IsFetched, IsTask, IsUpload, Passed, asked_plan, block_id, entry_with, ids_with, listed_at, needed, next_block, plan_of, plan_with, with_block}
+use Rattle.bcv_upload.specs.State.{State, HasPlace, IsFetched, IsTask, IsUpload, Passed, asked_plan, block_id, block_requests, entry_with, is_ready, left_of, listed_at, manifest_requests, needed, next_block, plan_of, plan_with, with_block}
 use Rattle.bcv_upload.specs.UploadWork.{with_publish}
 use Rattle.bcv_upload.proofs.BlockIds.{ids_more}
+use Rattle.bcv_upload.proofs.EntryIds.{ids_are, stays}
 use Rattle.bcv_upload.proofs.BlockNumbers.{TouchedAre, all_at, full_of, touched_are}
 
 -- what the touched blocks of an upload keep
@@ -184,3 +189,71 @@ upload_read seen s asked plan result p u block leaves =
     let left : GetLeaves seen (asked_plan s) s.publish result p = subst (λ (x : EditPlan). GetLeaves seen x s.publish result p) u.asked_is leaves in
     let id = (get_names seen (asked_plan s) s.publish result p left).id in
     record { task = task_read seen s result p u.task block left; asked_is = u.asked_is ∙ plan_later s [] p id; plan_is = u.plan_is ∙ plan_later s s.ids p id }
+
+-- ---- the manifest's put
+
+-- what an upload that is ready has
+pub record Ready (s : State) (l : Latest) : Type 0 where
+  pub still : s.published ≡ false
+  pub passed : Passed s l
+  pub all_put : length s.ids ≡ length s.touched
+  pub none : s.fetched ≡ None
+
+open_ready : (published : Bool) (n : ℕ) → ((cond published 0 n) == 1) ≡ true → (published ≡ false) × (n ≡ 1)
+open_ready true n h = absurd (cc)
+open_ready false n h = (refl, eqb-true n 1 h)
+
+none_left : (s : State) (o : Option (List ℕ)) → IfSome o (IsFetched s) → length s.ids ≤ length s.touched → (2 * (length s.touched - length s.ids) - cond (is_some o) 1 0) + 1 ≡ 1
+    → (length s.ids ≡ length s.touched) × (o ≡ None)
+none_left s None f most one = (omega (arith, most, one), refl)
+none_left s (Some bytes) f most one = absurd (omega (arith, f.more, one))
+
+pub ready_of : (s : State) (l : Latest) → IsTask s → is_ready s ≡ true → s.publish.latest ≡ Some l → Ready s l
+ready_of s l t ready there =
+    let o = open_ready s.published (block_requests s + manifest_requests s.publish.latest) (second_so (is_some s.publish.latest) (left_of s == 1) ready) in
+    let one : block_requests s + 1 ≡ 1 = sym (ap (λ (x : Option Latest). block_requests s + manifest_requests x) there) ∙ o.1 in
+    let none = none_left s s.fetched t.fetched t.most one in
+    record { still = o.0; passed = subst (λ (x : Option Latest). IfSome x (Passed s)) there (t.read o.0); all_put = none.0; none = none.1 }
+
+fits_plan : (s : State) (l : Latest) → IsTask s → Passed s l → FitsPlan l.manifest.block (plan_of s)
+fits_plan s l t p =
+    let b = t.base.entry in
+    subst (λ (block : ℕ). FitsPlan block (plan_of s)) (sym p.block)
+    (record {
+      name = b.name;
+      tag = t.id;
+      page_size = b.page_size;
+      pages = t.small;
+      blocks = length-map-range_with_len (block_id s.base.entry.blocks s.touched s.ids) 0 (needed s.base s.size);
+      few = omega (arith, t.few, length-map-range_with_len (block_id s.base.entry.blocks s.touched s.ids) 0 (needed s.base s.size));
+      ids = ids_are s.base.entry.blocks s.touched s.ids (needed s.base s.size) b.ids t.ids;
+    })
+
+pub fills : (s : State) → Fills (asked_plan s) (plan_of s)
+fills s =
+    (entry_with s.base s.size s.touched s.ids s.publish.id, refl,
+    record { name = refl; page_size = refl; pages = refl; blocks = λ i h. stays s.base.entry.blocks s.touched s.ids (needed s.base s.size) i h })
+
+put_ready : (s : State) (l : Latest) → IsTask s → Ready s l → IsReady l.manifest (plan_of s) s.publish.writer
+put_ready s l t r =
+    let fits = fits_plan s l t r.passed in
+    record {
+      rules = r.passed.rules;
+      limits = r.passed.limits;
+      passes = (applied_meets_limits l.manifest (asked_plan s) (plan_of s) s.publish.id s.publish.writer 0 r.passed.rules r.passed.limits fits r.passed.passes (fills s)).0;
+      fits = fits;
+    }
+
+-- whatever is kept
+pub some_kept : (o : Option Latest) → is_some o ≡ true → (l : Latest) × (o ≡ Some l)
+some_kept None h = absurd (cc)
+some_kept (Some l) h = (l, refl)
+
+pub kept_of : (s : State) → is_ready s ≡ true → (l : Latest) × (s.publish.latest ≡ Some l)
+kept_of s ready = some_kept s.publish.latest (first_so (is_some s.publish.latest) (left_of s == 1) ready)
+
+pub any_ready : (s : State) (plan : EditPlan) → plan ≡ plan_of s → IsTask s → is_ready s ≡ true → MatchOption s.publish.latest ⊥ (λ l. IsReady l.manifest plan s.publish.writer)
+any_ready s plan is t ready =
+    let k = kept_of s ready in
+    subst (λ (p : EditPlan). MatchOption s.publish.latest ⊥ (λ l. IsReady l.manifest p s.publish.writer)) (sym is)
+    (subst (λ (o : Option Latest). MatchOption o ⊥ (λ l. IsReady l.manifest (plan_of s) s.publish.writer)) (sym k.1) (put_ready s k.0 t (ready_of s k.0 t ready k.1)))
