@@ -3,6 +3,7 @@ pub mod BlockNumbers
 pub mod BlockTexts
 pub mod EntryIds
 pub mod NextTexts
+pub mod Owned
 pub mod Powers
 pub mod Ranges
 pub mod Tasks

@@ -1,6 +1,7 @@
 -- A step of an upload before the manifest's put: the manifest's get, the get of a block's old bytes, or the put of a block.
-use Rattle.std.specs.Prelude.{◌≡◌, ◌≢◌, ◌≤◌, ℕ, Bool, true, false, ◌&&◌, List, [], ◌∷◌, ◌++◌, length, find, Result, Ok, Err, Option, Some, None, is_none, option_map, unwrap_or, IfSome, if◌then◌else◌}
+use Rattle.std.specs.Prelude.{◌≡◌, ◌≢◌, ◌≤◌, ℕ, Bool, true, false, ◌&&◌, List, [], ◌∷◌, ◌++◌, length, find, Result, Ok, Err, Option, Some, None, is_none, option_map, unwrap_or, slice_get, IfSome, if◌then◌else◌}
 use Rattle.std.specs.Global.{Vec}
+use Rattle.std.specs.Option.{option_map_or}
 use Rattle.std.specs.declared.alloc.AllocError.{AllocError}
 use Rattle.bcv_base.specs.declared.id.Id16.{Id16}
 use Rattle.bcv_base.specs.declared.log.Entry.{Entry}
@@ -187,9 +188,13 @@ WorkTold store old new ids (Some l) false seen text s result t = PutTold store o
 
 -- ---- over a sound log
 
--- the first bytes put under the id that the base has for a block
+-- the first bytes put under an id
+abbrev pub first_text : List Item → Id16 → List ℕ
+first_text past i = unwrap_or (first_put past i) []
+
+-- the bytes of a block of the base, and none where the base has no such block
 abbrev pub old_text : List Item → TxnBase → ℕ → List ℕ
-old_text past base n = unwrap_or (first_put past (base_id base n)) []
+old_text past base n = option_map_or (first_text past) (slice_get base.entry.blocks n) []
 
 -- the touched blocks that were put are mine and lie in the log, each with the bytes of the view
 abbrev pub AreOwnBlocks : List Id16 → List Item → TxnBase → List Writes → List Id16 → List ℕ → Type 0
