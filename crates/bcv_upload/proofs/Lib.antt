@@ -2,6 +2,7 @@ pub mod BlockIds
 pub mod BlockNumbers
 pub mod BlockTexts
 pub mod EntryIds
+pub mod MayPut
 pub mod NextTexts
 pub mod Owned
 pub mod Powers

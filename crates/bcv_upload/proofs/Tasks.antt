@@ -18,14 +18,17 @@ use Rattle.bcv_dbmap.specs.Applied.{FitsPlan}
 use Rattle.bcv_dbmap.specs.Checked.{checked}
 use Rattle.bcv_dbmap.specs.Filled.{Fills}
 use Rattle.bcv_dbmap.proofs.Limits.{applied_meets_limits}
+use Rattle.bcv_publish.specs.declared.work.PutEnd.{PutEnd}
+use Rattle.bcv_publish.specs.declared.work.PutEnd.TheVariants as put
 use Rattle.bcv_publish.specs.declared.work.Work.{Work}
 use Rattle.bcv_publish.specs.declared.work.Work.TheVariants as work
 use Rattle.bcv_publish.specs.ManifestGet.{GetLeaves}
-use Rattle.bcv_publish.specs.ManifestPut.{IsReady}
+use Rattle.bcv_publish.specs.ManifestPut.{IsReady, PutLeaves, refused_once}
 use Rattle.bcv_publish.specs.ManifestRead.{unlike, is_other, is_past}
 use Rattle.bcv_publish.specs.State.{with_latest}
 use Rattle.bcv_publish.specs.State as publish
-use Rattle.bcv_upload.specs.State.{State, HasPlace, IsFetched, IsTask, IsUpload, Passed, asked_plan, block_id, block_requests, entry_with, is_ready, left_of, listed_at, manifest_requests, needed, next_block, plan_of, plan_with, with_block}
+use Rattle.bcv_upload.specs.State.{State, HasPlace, IsFetched, IsRunning, IsTask, IsUpload, Passed, asked_plan, block_id, block_requests, entry_with, is_ready, left_of, listed_at, manifest_requests, needed, next_block, plan_of, plan_with, with_block}
+use Rattle.bcv_upload.specs.UploadPut.{behind_put, is_published}
 use Rattle.bcv_upload.specs.UploadWork.{with_publish}
 use Rattle.bcv_upload.proofs.BlockIds.{ids_more}
 use Rattle.bcv_upload.proofs.EntryIds.{ids_are, stays}
@@ -142,8 +145,8 @@ seen_block p seen m block is like =
     not_not false h = absurd (cc)
 
 -- with another publication, under the same id
-task_publish : (s : State) (p : publish.State) → IsTask s → p.id ≡ s.publish.id → (s.published ≡ false → IfSome p.latest (Passed (with_publish s p))) → IsTask (with_publish s p)
-task_publish s p t id read = record {
+task_publish : (s : State) (p : publish.State) (b : Bool) → IsTask s → p.id ≡ s.publish.id → (b ≡ false → IfSome p.latest (Passed (record s { publish = p; published = b }))) → IsTask (record s { publish = p; published = b })
+task_publish s p b t id read = record {
   base = t.base;
   small = t.small;
   few = t.few;
@@ -156,7 +159,7 @@ task_publish s p t id read = record {
   read = read;
 }
   where
-    fetched_later : (o : Option (List ℕ)) → IfSome o (IsFetched s) → IfSome o (IsFetched (with_publish s p))
+    fetched_later : (o : Option (List ℕ)) → IfSome o (IsFetched s) → IfSome o (IsFetched (record s { publish = p; published = b }))
     fetched_later None f = tt
     fetched_later (Some bytes) f = record { whole = f.whole; more = f.more }
 
@@ -166,7 +169,7 @@ read_other s p t is = subst (λ (x : publish.State). IsTask (with_publish s x)) 
 task_read : (seen : Seen) (s : State) (result : Work) (p : publish.State) → IsTask s → seen.block ≡ Some s.base.block → GetLeaves seen (asked_plan s) s.publish result p → IsTask (with_publish s p)
 task_read seen s work.More p t block leaves =
     subst (λ (x : publish.State). IsTask (with_publish s x)) (sym leaves.5)
-    (task_publish s (with_latest s.publish leaves.0) t refl
+    (task_publish s (with_latest s.publish leaves.0) s.published t refl
     (λ waits. record { block = seen_block s.publish seen leaves.0.manifest s.base.block block leaves.3; rules = leaves.1; limits = leaves.2; passes = leaves.4 }))
 task_read seen s (work.Fault f) p t block leaves = read_other s p t leaves
 task_read seen s work.NoContainer p t block leaves = read_other s p t leaves
@@ -257,3 +260,39 @@ any_ready s plan is t ready =
     let k = kept_of s ready in
     subst (λ (p : EditPlan). MatchOption s.publish.latest ⊥ (λ l. IsReady l.manifest p s.publish.writer)) (sym is)
     (subst (λ (o : Option Latest). MatchOption o ⊥ (λ l. IsReady l.manifest (plan_of s) s.publish.writer)) (sym k.1) (put_ready s k.0 t (ready_of s k.0 t ready k.1)))
+
+put_refused : (s : State) (l : Latest) (p : publish.State) → IsTask s → p ≡ refused_once s.publish l → IsTask (record s { publish = p; published = false })
+put_refused s l p t is = subst (λ (x : publish.State). IsTask (record s { publish = x; published = false })) (sym is) (task_publish s (refused_once s.publish l) false t refl (λ waits. tt))
+
+put_same : (s : State) (p : publish.State) → IsTask s → s.published ≡ false → p ≡ s.publish → IsTask (record s { publish = p; published = false })
+put_same s p t still is =
+    subst (λ (x : publish.State). IsTask (record s { publish = x; published = false })) (sym is)
+    (subst (λ (b : Bool). IsTask (record s { published = b })) still t)
+
+task_put : (moment : ℕ) (s : State) (plan : EditPlan) (l : Latest) (end : PutEnd) (p : publish.State) → IsTask s → s.published ≡ false → PutLeaves plan moment s.publish l end p → IsTask (behind_put s p end)
+task_put moment s plan l (put.Published n) p t still leaves = task_publish s p true t (ap (λ (x : publish.State). x.id) leaves.2) (λ waits. absurd (cc))
+task_put moment s plan l put.Refused p t still leaves = put_refused s l p t leaves.1
+task_put moment s plan l (put.Contended numbers) p t still leaves = put_refused s l p t leaves.3
+task_put moment s plan l put.Unknown p t still leaves = put_same s p t still leaves
+task_put moment s plan l put.NoMemory p t still leaves = put_same s p t still leaves
+
+pub any_put : (moment : ℕ) (s : State) (plan : EditPlan) (end : PutEnd) (p : publish.State) → IsTask s → is_ready s ≡ true → MatchOption s.publish.latest ⊥ (λ l. PutLeaves plan moment s.publish l end p) → IsTask (behind_put s p end)
+any_put moment s plan end p t ready leaves =
+    let k = kept_of s ready in
+    task_put moment s plan k.0 end p t (ready_of s k.0 t ready k.1).still (subst (λ (o : Option Latest). MatchOption o ⊥ (λ l. PutLeaves plan moment s.publish l end p)) k.1 leaves)
+
+-- after a refused put the upload goes on
+refused_few : (s : State) (l : Latest) (p : publish.State) → length s.publish.refused < 7 → p ≡ refused_once s.publish l → length p.refused < 8
+refused_few s l p few is =
+    let long : length p.refused ≡ length (s.publish.refused ++ l.manifest.number ∷ []) = ap (λ (x : publish.State). length x.refused) is in
+    omega (arith, long, few, length-append s.publish.refused (l.manifest.number ∷ []))
+
+pub any_refused : (moment : ℕ) (s : State) (plan : EditPlan) (end : PutEnd) (p : publish.State) → IsTask (behind_put s p end) → MatchOption s.publish.latest ⊥ (λ l. PutLeaves plan moment s.publish l end p) → end ≡ put.Refused
+    → IsRunning (behind_put s p end)
+any_refused moment s plan end p task leaves is = by_latest s.publish.latest leaves
+  where
+    by_latest : (o : Option Latest) → MatchOption o ⊥ (λ l. PutLeaves plan moment s.publish l end p) → IsRunning (behind_put s p end)
+    by_latest None leaves = absurd leaves
+    by_latest (Some l) leaves =
+        let left : PutLeaves plan moment s.publish l put.Refused p = subst (λ (x : PutEnd). PutLeaves plan moment s.publish l x p) is leaves in
+        record { task = task; waits = ap is_published is; few = refused_few s l p left.0 left.1 }
