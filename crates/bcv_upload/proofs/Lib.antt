@@ -8,3 +8,4 @@ pub mod Owned
 pub mod Powers
 pub mod Ranges
 pub mod Tasks
+pub mod WorkLaws
