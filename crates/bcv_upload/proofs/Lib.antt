@@ -1,6 +1,7 @@
 pub mod BlockIds
 pub mod BlockNumbers
 pub mod BlockTexts
+pub mod BlockWorks
 pub mod EntryIds
 pub mod MayPut
 pub mod NextTexts

@@ -58,7 +58,7 @@ first_after past (e ∷ es) i bytes is = first_after (item_of e ∷ past) es i b
 listed_after : (past : List Item) (log : List Entry) (base : TxnBase) → WasListed past base → WasListed (history_after past log) base
 listed_after past log base w = record { manifest = w.manifest; published = published_after w.manifest past log w.published; among = w.among; block = w.block }
 
-text_after : (past : List Item) (log : List Entry) (base : TxnBase) (n : ℕ) → Sound past → WasListed past base → old_text (history_after past log) base n ≡ old_text past base n
+pub text_after : (past : List Item) (log : List Entry) (base : TxnBase) (n : ℕ) → Sound past → WasListed past base → old_text (history_after past log) base n ≡ old_text past base n
 text_after past log base n sound w = by_place (slice_get base.entry.blocks n) refl
   where
     by_place : (o : Option Id16) → slice_get base.entry.blocks n ≡ o → option_map_or (first_text (history_after past log)) o [] ≡ option_map_or (first_text past) o []

@@ -43,8 +43,8 @@ pub next_within : (s : State) → IsTask s → length s.ids < length s.touched �
 next_within s t more = all_at (λ n. n < needed s.base s.size) s.touched (length s.ids) (touched_of s t).within more
 
 -- the number that is read is that of the next block
-pub next_is : (s : State) (d : ℕ) → length s.ids < length s.touched → next_block s ≡ get_or s.touched (length s.ids) 0
-next_is s d more = unwrap_or-slice_get s.touched (length s.ids) 0
+pub next_is : (s : State) → next_block s ≡ get_or s.touched (length s.ids) 0
+next_is s = unwrap_or-slice_get s.touched (length s.ids) 0
 
 -- ---- the put of a block
 

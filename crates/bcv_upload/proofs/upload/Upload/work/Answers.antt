@@ -3,6 +3,7 @@ use Rattle.bcv_base.specs.declared.seen.Latest.{Latest}
 use Rattle.bcv_upload.specs.declared.upload.Upload.TheInside.{Inside}
 use Rattle.bcv_upload.specs.State.{State, IsTask, view_in}
 use Rattle.bcv_upload.proofs.WorkLaws.{read_works}
+use Rattle.bcv_upload.proofs.BlockWorks.{block_works}
 use Rattle.bcv_upload.proofs.upload.Upload.work.Goals as goal
 
 abbrev viewed : Inside → State
