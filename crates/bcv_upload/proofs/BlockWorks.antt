@@ -36,6 +36,7 @@ use Rattle.bcv_publish.specs.declared.work.BlockEnd.TheVariants as end
 use Rattle.bcv_publish.specs.declared.work.Work.{Work}
 use Rattle.bcv_publish.specs.declared.work.Work.TheVariants as work
 use Rattle.bcv_publish.specs.BlockPut.{AreFresh, BlockFails, BlockNamesCause, BlockPutLeaves, BlockPutSound, BlockPuts, BlockTakes, IsBlockAppended, SoundBlockEnds, block_work}
+use Rattle.bcv_publish.proofs.BlockPutLaws.{none_puts}
 use Rattle.bcv_store.specs.StoreShown.{StoreTold, StoreShown}
 use Rattle.bcv_upload.specs.BlockText.{has_base, page_at, pages_in, per_block, view_block, view_page}
 use Rattle.bcv_upload.specs.State.{State, IsBase, IsTask, base_id, next_block, old_id, with_block}
@@ -107,7 +108,7 @@ first_here past i bytes unput = ap (λ (o : Option (List ℕ)). or_else o (cond 
 
 -- ---- the put of the next block
 
-module _ (mine : List Id16) (view : List Writes) (c : Blocks) (s : State) (task : IsTask s) (not_asked : is_fetch view c s ≡ false) (more : length s.ids < length s.touched) (whole : length (next_text view c s) ≡ s.base.block) where
+module _ (mine : List Id16) (view : List Writes) (c : Blocks) (s : State) (task : IsTask s) (not_asked : is_fetch view c s ≡ false) (more : length s.ids < length s.touched) where
   abbrev text : List ℕ
   text = next_text view c s
 
@@ -140,9 +141,9 @@ module _ (mine : List Id16) (view : List Writes) (c : Blocks) (s : State) (task 
   with_none log after own t grown none has = subst (λ (l : List Entry). OwnsBlocks mine l view t) (sym (grown ∙ ap (λ (l : List Entry). log ++ l) none ∙ append-nil log)) has
 
   -- the block is one more of the upload's own
-  put_more : (before others after own : List Entry) (ids : List Id16) (i : Id16) (etag : ℕ) → Before before others ids → after ≡ (before ++ others) ++ own → ids ≡ i ∷ [] → first_put (history_of before) i ≡ None
+  put_more : (before others after own : List Entry) (ids : List Id16) (i : Id16) (etag : ℕ) → length text ≡ s.base.block → Before before others ids → after ≡ (before ++ others) ++ own → ids ≡ i ∷ [] → first_put (history_of before) i ≡ None
       → own ≡ entry.Put true (object.Block i) text etag ∷ [] → OwnsBlocks mine after view (with_block s i)
-  put_more before others after own ids i etag b grown drawn unput put =
+  put_more before others after own ids i etag whole b grown drawn unput put =
       let log : List Entry = before ++ others in
       let f = b.fresh i drawn in
       let none : first_put (history_of log) i ≡ None = b.bytes i f.0 ∙ unput in
@@ -173,23 +174,23 @@ module _ (mine : List Id16) (view : List Writes) (c : Blocks) (s : State) (task 
   by_fails outcome.Lost None own i P f none put = put f
   by_fails outcome.Lost (Some b) own i P f none put = none f
 
-  block_blocks : (o : Outcome) (before others after own : List Entry) (ids : List Id16) (r : BlockEnd) (t : State) → Before before others ids → after ≡ (before ++ others) ++ own → BlockPutLeaves ids s.ids r t.ids
+  block_blocks : (o : Outcome) (before others after own : List Entry) (ids : List Id16) (r : BlockEnd) (t : State) → (r ≡ end.Stored → length text ≡ s.base.block) → Before before others ids → after ≡ (before ++ others) ++ own → BlockPutLeaves ids s.ids r t.ids
       → BlockLeaves s (block_work r) t → SoundBlockEnds o (history_of before) own ids text r → OwnsBlocks mine after view t
-  block_blocks o before others after own ids end.Stored t b grown leaves left ends =
+  block_blocks o before others after own ids end.Stored t whole b grown leaves left ends =
       let same : ends.0 ≡ left.0 =
       sym (last_read s.ids t.ids ends.0 zero_id (leaves.2 ∙ ap (λ (j : Id16). s.ids ++ j ∷ []) (first_same leaves.0 ends.0 ids leaves.1 ends.1))) ∙ last_read s.ids t.ids left.0 zero_id (ap (λ (x : State). x.ids) left.1)
       in
-      subst (OwnsBlocks mine after view) (sym (left.1 ∙ ap (with_block s) (sym same))) (put_more before others after own ids ends.0 ends.4.0 b grown ends.1 ends.3 ends.4.1)
+      subst (OwnsBlocks mine after view) (sym (left.1 ∙ ap (with_block s) (sym same))) (put_more before others after own ids ends.0 ends.4.0 (whole refl) b grown ends.1 ends.3 ends.4.1)
     where
       first_same : (i j : Id16) (ids : List Id16) → ids ≡ i ∷ [] → ids ≡ j ∷ [] → i ≡ j
       first_same i j ids a b = let both : i ∷ [] ≡ j ∷ [] = sym a ∙ b in cc
-  block_blocks o before others after own ids end.NameTaken t b grown leaves left ends = with_none (before ++ others) after own t grown ends.4 (subst (OwnsBlocks mine (before ++ others) view) (sym left) b.has)
-  block_blocks o before others after own ids end.StoreFault t b grown leaves left ends =
+  block_blocks o before others after own ids end.NameTaken t whole b grown leaves left ends = with_none (before ++ others) after own t grown ends.4 (subst (OwnsBlocks mine (before ++ others) view) (sym left) b.has)
+  block_blocks o before others after own ids end.StoreFault t whole b grown leaves left ends =
       by_fails o (first_put (history_of before) ends.0) own ends.0 (OwnsBlocks mine after view t) ends.2
       (λ none. with_none (before ++ others) after own t grown none (subst (OwnsBlocks mine (before ++ others) view) (sym left) b.has))
       (λ put. with_put (before ++ others) after own ends.0 put.0 t b.sound grown put.1 (subst (OwnsBlocks mine (before ++ others) view) (sym left) b.has))
-  block_blocks o before others after own ids end.NamesFault t b grown leaves left ends = with_none (before ++ others) after own t grown ends.1 (subst (OwnsBlocks mine (before ++ others) view) (sym left) b.has)
-  block_blocks o before others after own ids end.NoMemory t b grown leaves left ends = with_none (before ++ others) after own t grown ends (subst (OwnsBlocks mine (before ++ others) view) (sym left) b.has)
+  block_blocks o before others after own ids end.NamesFault t whole b grown leaves left ends = with_none (before ++ others) after own t grown ends.1 (subst (OwnsBlocks mine (before ++ others) view) (sym left) b.has)
+  block_blocks o before others after own ids end.NoMemory t whole b grown leaves left ends = with_none (before ++ others) after own t grown ends (subst (OwnsBlocks mine (before ++ others) view) (sym left) b.has)
 
 -- ---- the whole
 
@@ -224,7 +225,7 @@ block_names s ids end.NamesFault t leaves left = leaves.0
 block_names s ids end.NoMemory t leaves left = leaves.0
 
 works_at : (store : StoreTold) (old new : StoreShown) (names later_names : NamesShown) (seen : Seen) (view : List Writes) (c : Blocks) (s : State) (l : Latest) (r : BlockEnd) (t : State) → IsTask s → s.publish.latest ≡ Some l
-    → is_fetch view c s ≡ false → length s.ids < length s.touched → length (next_text view c s) ≡ s.base.block → BlockLeaves s (block_work r) t
+    → is_fetch view c s ≡ false → length s.ids < length s.touched → (r ≡ end.Stored → length (next_text view c s) ≡ s.base.block) → BlockLeaves s (block_work r) t
     → BlockPuts store old new names later_names (next_text view c s) s.ids r t.ids → TaskWorks store old new names later_names seen view c s (block_work r) t
 works_at store old new names later_names seen view c s l r t task there not_asked more whole left puts = record {
   ids = puts.drawn;
@@ -242,8 +243,8 @@ works_at store old new names later_names seen view c s l r t task there not_aske
         ends = subst (λ (o : Option Latest). SoundWorkEnds put.outcome old.log new.log put.growth.own puts.drawn o (is_fetch view c s) seen (next_text view c s) s (block_work r) t) (sym there)
             (subst (λ (b : Bool). SoundWorkEnds put.outcome old.log new.log put.growth.own puts.drawn (Some l) b seen (next_text view c s) s (block_work r) t) (sym not_asked) (r, refl, put.ends));
         blocks =
-            block_blocks mine view c s task not_asked more whole put.outcome old.log put.growth.others new.log put.growth.own puts.drawn r t
-            (before_of mine view c s task not_asked more whole store.alone old.log new.log puts.drawn put.growth sound has cached fresh) put.growth.grown puts.leaves left put.ends;
+            block_blocks mine view c s task not_asked more put.outcome old.log put.growth.others new.log put.growth.own puts.drawn r t whole
+            (before_of mine view c s task not_asked more store.alone old.log new.log puts.drawn put.growth sound has cached fresh) put.growth.grown puts.leaves left put.ends;
       };
   taken = block_takes store old new r puts.taken;
   later = puts.later;
@@ -255,7 +256,13 @@ works_at store old new names later_names seen view c s l r t task there not_aske
 pub block_works : (store : StoreTold) (old new : StoreShown) (names later_names : NamesShown) (seen : Seen) (view : List Writes) (c : Blocks) (s : State) (l : Latest) (result : Work) (t : State) (text : List ℕ) → IsTask s → s.publish.latest ≡ Some l
     → is_fetch view c s ≡ false → length s.ids < length s.touched → text ≡ next_text view c s → length text ≡ s.base.block → BlockLeaves s result t
     → PutsNext store old new names later_names text s.ids result t.ids → TaskWorks store old new names later_names seen view c s result t
-block_works store old new names later_names seen view c s l result t text task there not_asked more text_is whole left puts =
+block_works store old new names later_names seen view c s l result t bytes task there not_asked more text_is whole left puts =
     subst (λ (w : Work). TaskWorks store old new names later_names seen view c s w t) (sym puts.1)
-    (works_at store old new names later_names seen view c s l puts.0 t task there not_asked more (sym (ap length text_is) ∙ whole) (subst (λ (w : Work). BlockLeaves s w t) puts.1 left)
+    (works_at store old new names later_names seen view c s l puts.0 t task there not_asked more (λ stored. sym (ap length text_is) ∙ whole) (subst (λ (w : Work). BlockLeaves s w t) puts.1 left)
     (subst (λ (x : List ℕ). BlockPuts store old new names later_names x s.ids puts.0 t.ids) text_is puts.2))
+
+-- where memory ran out before the request nothing came of it
+pub none_works : (store : StoreTold) (old : StoreShown) (names : NamesShown) (seen : Seen) (view : List Writes) (c : Blocks) (s : State) (l : Latest) → IsTask s → s.publish.latest ≡ Some l → is_fetch view c s ≡ false
+    → length s.ids < length s.touched → TaskWorks store old old names names seen view c s work.NoMemory s
+none_works store old names seen view c s l task there not_asked more =
+    works_at store old old names names seen view c s l end.NoMemory s task there not_asked more (λ stored. absurd (cc)) refl (none_puts store old names (next_text view c s) s.ids)

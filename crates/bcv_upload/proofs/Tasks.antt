@@ -1,8 +1,8 @@
 -- What each step keeps of an upload.
-use Rattle.std.proofs.Common.{◌≡◌, ◌∙◌, ◌⊎◌, inl, inr, ℕ, suc, ◌+◌, ◌-◌, ◌*◌, ◌<◌, ◌≤◌, Bool, true, false, not, ◌&&◌, ◌||◌, ◌==◌, cond, List, [], ◌∷◌, ◌++◌, length, get_or, slice_get, slice_set, length-append, Option, Some, None, IfSome, MatchOption, is_some, is_none, unwrap_or, nat_lt, refl, sym, ap, subst, arith}
+use Rattle.std.proofs.Common.{◌≡◌, ◌∙◌, ◌⊎◌, inl, inr, ℕ, suc, ◌+◌, ◌-◌, ◌*◌, ◌<◌, ◌≤◌, Bool, true, false, not, ◌&&◌, ◌||◌, ◌==◌, cond, List, [], ◌∷◌, ◌++◌, length, get_or, slice_get, slice_set, length-append, Option, Some, None, IfSome, MatchOption, is_some, is_none, option_copied, Bor, unwrap_or, nat_lt, refl, sym, ap, subst, arith}
 use Rattle.std.specs.Cmp.{first_so, second_so}
 use Rattle.std.specs.List.{AllByRecursion}
-use Rattle.std.proofs.lemmas.Bool.{eqb-true, eqb-false}
+use Rattle.std.proofs.lemmas.Bool.{cases_lt, eqb-true, eqb-false}
 use Rattle.std.proofs.lemmas.Grind.{get_or_default_zero}
 use Rattle.std.proofs.lemmas.List.FromFn.{length-map-range_with_len}
 use Rattle.std.proofs.Math.Seq.{get_or-append_seam}
@@ -12,12 +12,17 @@ use Rattle.bcv_base.specs.declared.manifest.Manifest.{Manifest}
 use Rattle.bcv_base.specs.declared.seen.Latest.{Latest}
 use Rattle.bcv_base.specs.declared.seen.Seen.{Seen}
 use Rattle.bcv_base.specs.Ids.{IsId}
+use Rattle.bcv_base.specs.Image.{Writes}
+use Rattle.bcv_base.specs.Views.{view_size}
+use Rattle.bcv_cache.specs.Entry.{Blocks}
+use Rattle.bcv_cache.specs.Entry as cache
 use Rattle.bcv_dbmap.specs.declared.plan.EditPlan.{EditPlan}
 use Rattle.bcv_dbmap.specs.declared.plan.EditPlan.TheVariants as edit
 use Rattle.bcv_dbmap.specs.Applied.{FitsPlan}
 use Rattle.bcv_dbmap.specs.Checked.{checked}
 use Rattle.bcv_dbmap.specs.Filled.{Fills}
 use Rattle.bcv_dbmap.proofs.Limits.{applied_meets_limits}
+use Rattle.bcv_pages.specs.Held.{Held}
 use Rattle.bcv_publish.specs.declared.work.PutEnd.{PutEnd}
 use Rattle.bcv_publish.specs.declared.work.PutEnd.TheVariants as put
 use Rattle.bcv_publish.specs.declared.work.Work.{Work}
@@ -27,12 +32,14 @@ use Rattle.bcv_publish.specs.ManifestPut.{IsReady, PutLeaves, refused_once}
 use Rattle.bcv_publish.specs.ManifestRead.{unlike, is_other, is_past}
 use Rattle.bcv_publish.specs.State.{with_latest}
 use Rattle.bcv_publish.specs.State as publish
-use Rattle.bcv_upload.specs.State.{State, HasPlace, IsFetched, IsRunning, IsTask, IsUpload, Passed, asked_plan, block_id, block_requests, entry_with, is_ready, left_of, listed_at, manifest_requests, needed, next_block, plan_of, plan_with, with_block}
+use Rattle.bcv_upload.specs.declared.next_text.NextText.{NextText}
+use Rattle.bcv_upload.specs.BlockText.{IsViewOf, per_block}
+use Rattle.bcv_upload.specs.State.{State, HasPlace, IsFetched, IsRunning, IsTask, IsUpload, Passed, asked_plan, block_id, block_requests, entry_with, is_ready, left_of, listed_at, manifest_requests, needed, next_block, plan_of, plan_with, view_in, with_block}
 use Rattle.bcv_upload.specs.UploadPut.{behind_put, is_published}
-use Rattle.bcv_upload.specs.UploadWork.{with_publish}
+use Rattle.bcv_upload.specs.UploadWork.{IsNext, cache_asked, with_publish}
 use Rattle.bcv_upload.proofs.BlockIds.{ids_more}
 use Rattle.bcv_upload.proofs.EntryIds.{ids_are, stays}
-use Rattle.bcv_upload.proofs.BlockNumbers.{TouchedAre, all_at, full_of, touched_are}
+use Rattle.bcv_upload.proofs.BlockNumbers.{TouchedAre, all_at, full_of, needed_inside, touched_are}
 
 -- what the touched blocks of an upload keep
 pub touched_of : (s : State) → IsTask s → TouchedAre s.base s.size s.touched
@@ -296,3 +303,55 @@ any_refused moment s plan end p task leaves is = by_latest s.publish.latest leav
     by_latest (Some l) leaves =
         let left : PutLeaves plan moment s.publish l put.Refused p = subst (λ (x : PutEnd). PutLeaves plan moment s.publish l x p) is leaves in
         record { task = task; waits = ap is_published is; few = refused_few s l p left.0 left.1 }
+
+-- ---- the next step
+
+left_more : (n i g : ℕ) → i ≤ n → ((2 * (n - i) - g) + 1 ≡ 1 → ⊥) → i < n
+left_more n i g most some = elim (cases_lt i n) [
+  | inl less ↦ less
+  | inr past ↦ absurd (some (omega (arith, past)))
+]
+
+-- an upload that is not ready has a block to put, where a manifest is kept
+pub more_left : (s : State) (l : Latest) → IsTask s → s.published ≡ false → s.publish.latest ≡ Some l → is_ready s ≡ false → length s.ids < length s.touched
+more_left s l t still there not_ready =
+    let left : left_of s ≡ block_requests s + 1 = ap (λ (b : Bool). cond b 0 (block_requests s + manifest_requests s.publish.latest)) still ∙ ap (λ (o : Option Latest). block_requests s + manifest_requests o) there in
+    let test : (left_of s == 1) ≡ false = sym (ap (λ (o : Option Latest). is_some o && left_of s == 1) there) ∙ not_ready in
+    left_more (length s.touched) (length s.ids) (cond (is_some s.fetched) 1 0) t.most (λ one. eqb-false (left_of s) 1 test (left ∙ one))
+
+pub number_at : (s : State) (n k : ℕ) → n ≡ get_or s.touched k n → k ≡ length s.ids → length s.ids < length s.touched → n ≡ next_block s
+number_at s n k read is more = number_read s.touched n k (length s.ids) read is more ∙ sym (next_is s)
+
+-- the pages before the next block end within the view
+pub next_inside : (s : State) (n : ℕ) (view : List Writes) → IsTask s → IsViewOf s.base view s.size s.touched → length s.ids < length s.touched → n ≡ next_block s → n * per_block s.base < view_size s.base.entry.pages view
+next_inside s n view t of_view more is =
+    subst (λ (x : ℕ). n * per_block s.base < x) of_view.size_is
+    (needed_inside s.base s.size n (full_of s.base t.base) (subst (λ (x : ℕ). x < needed s.base s.size) (sym (is ∙ next_is s)) (next_within s t more)))
+
+pub next_at : (s t : State) (h : Held) (n : ℕ) (es : List cache.Entry) (r : NextText) → s ≡ t → n ≡ next_block s → IsNext s.base (view_in h s.base) n s.fetched es r → IsNext t.base (view_in h t.base) (next_block t) t.fetched es r
+next_at s t h n es r same is next =
+    subst (λ (x : State). IsNext x.base (view_in h x.base) (next_block x) x.fetched es r) same (subst (λ (k : ℕ). IsNext s.base (view_in h s.base) k s.fetched es r) is next)
+
+pub cache_at : (s t : State) (h : Held) (n : ℕ) (c new : Blocks) → s ≡ t → n ≡ next_block s → new ≡ cache_asked s.base (view_in h s.base) n s.fetched c → new ≡ cache_asked t.base (view_in h t.base) (next_block t) t.fetched c
+cache_at s t h n c new same is asked =
+    subst (λ (x : State). new ≡ cache_asked x.base (view_in h x.base) (next_block x) x.fetched c) same (subst (λ (k : ℕ). new ≡ cache_asked s.base (view_in h s.base) k s.fetched c) is asked)
+
+-- what is known where a manifest is kept: the next block, by the number that was read
+pub record HasNext (s t : State) (n : ℕ) : Type 0 where
+  pub latest : Latest
+  pub there : t.publish.latest ≡ Some latest
+  pub more : length s.ids < length s.touched
+  pub more_then : length t.ids < length t.touched
+  pub number : n ≡ next_block s
+
+some_copied : (o : Option (Bor Latest)) → is_none o ≡ false → (l : Latest) × (option_copied o ≡ Some l)
+some_copied None h = absurd (cc)
+some_copied (Some l) h = (l.now, refl)
+
+pub has_next : (s t : State) (o : Option (Bor Latest)) (n k : ℕ) → s ≡ t → option_copied o ≡ s.publish.latest → is_none o ≡ false → IsRunning t → is_ready t ≡ false → n ≡ get_or s.touched k n → k ≡ length s.ids → HasNext s t n
+has_next s t o n k same copied some running not_ready read is =
+    let kept = some_copied o some in
+    let there : t.publish.latest ≡ Some kept.0 = sym (ap (λ (x : State). x.publish.latest) same) ∙ sym copied ∙ kept.1 in
+    let more : length t.ids < length t.touched = more_left t kept.0 running.task running.waits there not_ready in
+    let before : length s.ids < length s.touched = subst (λ (x : State). length x.ids < length x.touched) (sym same) more in
+    record { latest = kept.0; there = there; more = before; more_then = more; number = number_at s n k read is before }
