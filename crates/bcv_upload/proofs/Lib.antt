@@ -3,10 +3,12 @@ pub mod BlockNumbers
 pub mod BlockTexts
 pub mod BlockWorks
 pub mod EntryIds
+pub mod ImagePages
 pub mod MayPut
 pub mod NextTexts
 pub mod Owned
 pub mod Powers
 pub mod Ranges
 pub mod Tasks
+pub mod ViewPages
 pub mod WorkLaws
