@@ -38,9 +38,10 @@ use Rattle.bcv_publish.specs.declared.work.Work.TheVariants as work
 use Rattle.bcv_publish.specs.BlockPut.{AreFresh, BlockFails, BlockNamesCause, BlockPutLeaves, BlockPutSound, BlockPuts, BlockTakes, IsBlockAppended, SoundBlockEnds, block_work}
 use Rattle.bcv_publish.proofs.BlockPutLaws.{none_puts}
 use Rattle.bcv_store.specs.StoreShown.{StoreTold, StoreShown}
+use Rattle.bcv_upload.specs.Inside.{PutsNext}
 use Rattle.bcv_upload.specs.BlockText.{has_base, page_at, pages_in, per_block, view_block, view_page}
 use Rattle.bcv_upload.specs.State.{State, IsBase, IsTask, base_id, next_block, old_id, with_block}
-use Rattle.bcv_upload.specs.UploadWork.{AreFirstPuts, AreOwnBlocks, BlockDraws, BlockLeaves, DrawsFor, OwnsBlocks, PutsNext, SoundWorkEnds, TaskWorks, WorkNamesCause, WorkSound, WorkTakes, WorkTold, asks_cache, asks_store, cached_bytes, first_text, is_fetch, next_text, old_bytes, old_text, text_of}
+use Rattle.bcv_upload.specs.UploadWork.{AreFirstPuts, AreOwnBlocks, BlockDraws, BlockLeaves, DrawsFor, OwnsBlocks, SoundWorkEnds, TaskWorks, WorkNamesCause, WorkSound, WorkTakes, WorkTold, asks_cache, asks_store, cached_bytes, first_text, is_fetch, next_text, old_bytes, old_text, text_of}
 use Rattle.bcv_upload.proofs.NextTexts.{base_block}
 use Rattle.bcv_upload.proofs.Owned.{blocks_stay_others, blocks_stay_put, first_after, text_after}
 use Rattle.bcv_upload.proofs.Ranges.{none_there, same_text}

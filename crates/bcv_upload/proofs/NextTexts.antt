@@ -15,10 +15,11 @@ use Rattle.bcv_cache.specs.Cache.{entry_in, found_first, has_id, has_slot, slot_
 use Rattle.bcv_cache.specs.Entry.{Blocks}
 use Rattle.bcv_cache.specs.Entry as cache
 use Rattle.bcv_dbmap.specs.Checked.{zero_id}
+use Rattle.bcv_upload.specs.Inside.{IsNext, made_text}
 use Rattle.bcv_upload.specs.declared.next_text.NextText.{NextText}
 use Rattle.bcv_upload.specs.BlockText.{has_base, per_block, view_block}
 use Rattle.bcv_upload.specs.State.{IsBase, base_id, id_at, needed}
-use Rattle.bcv_upload.specs.UploadWork.{asks_cache, asks_store, cache_asked, cached_bytes, made_text, text_of, IsNext}
+use Rattle.bcv_upload.specs.UploadWork.{asks_cache, asks_store, cache_asked, cached_bytes, text_of}
 use Rattle.bcv_upload.proofs.BlockNumbers.{full_of, inside_needed}
 use Rattle.bcv_upload.proofs.Ranges.{any_found}
 

@@ -32,11 +32,12 @@ use Rattle.bcv_publish.specs.ManifestPut.{IsReady, PutLeaves, refused_once}
 use Rattle.bcv_publish.specs.ManifestRead.{unlike, is_other, is_past}
 use Rattle.bcv_publish.specs.State.{with_latest}
 use Rattle.bcv_publish.specs.State as publish
+use Rattle.bcv_upload.specs.Inside.{HasPlace, IsNext, IsUpload, listed_at}
 use Rattle.bcv_upload.specs.declared.next_text.NextText.{NextText}
 use Rattle.bcv_upload.specs.BlockText.{IsViewOf, per_block}
-use Rattle.bcv_upload.specs.State.{State, HasPlace, IsFetched, IsRunning, IsTask, IsUpload, Passed, asked_plan, block_id, block_requests, entry_with, is_ready, left_of, listed_at, manifest_requests, needed, next_block, plan_of, plan_with, view_in, with_block}
+use Rattle.bcv_upload.specs.State.{State, IsFetched, IsRunning, IsTask, Passed, asked_plan, block_id, block_requests, entry_with, is_ready, left_of, manifest_requests, needed, next_block, plan_of, plan_with, view_in, with_block}
 use Rattle.bcv_upload.specs.UploadPut.{behind_put, is_published}
-use Rattle.bcv_upload.specs.UploadWork.{IsNext, cache_asked, with_publish}
+use Rattle.bcv_upload.specs.UploadWork.{cache_asked, with_publish}
 use Rattle.bcv_upload.proofs.BlockIds.{ids_more}
 use Rattle.bcv_upload.proofs.EntryIds.{ids_are, stays}
 use Rattle.bcv_upload.proofs.BlockNumbers.{TouchedAre, all_at, full_of, needed_inside, touched_are}

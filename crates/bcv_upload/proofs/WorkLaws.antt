@@ -44,9 +44,10 @@ use Rattle.bcv_publish.specs.Request.{TakesOutcome}
 use Rattle.bcv_publish.specs.State as publish
 use Rattle.bcv_publish.proofs.Growth.{growth_of, later_of}
 use Rattle.bcv_store.specs.StoreShown.{StoreTold, StoreShown}
+use Rattle.bcv_upload.specs.Inside.{BlockGets, PutsNext}
 use Rattle.bcv_upload.specs.BlockText.{has_base, view_block}
 use Rattle.bcv_upload.specs.State.{State, IsBase, IsTask, asked_plan, base_id, next_block, old_id, with_block, with_fetched}
-use Rattle.bcv_upload.specs.UploadWork.{AreFirstPuts, AreOwnBlocks, BlockDraws, BlockGets, BlockLeaves, DrawsFor, FetchEnds, FetchLeaves, FetchTold, IsOutlivedBase, OwnsBlocks, PutsNext, SoundFetchEnds, SoundWorkEnds, TaskWorks, WasListed, WorkLeaves, WorkNamesCause, WorkSound, WorkTakes, WorkTold, cache_after, cache_asked, cached_bytes, first_text, is_fetch, next_text, old_bytes, old_text, text_of, with_publish}
+use Rattle.bcv_upload.specs.UploadWork.{AreFirstPuts, AreOwnBlocks, BlockDraws, BlockLeaves, DrawsFor, FetchEnds, FetchLeaves, FetchTold, IsOutlivedBase, OwnsBlocks, SoundFetchEnds, SoundWorkEnds, TaskWorks, WasListed, WorkLeaves, WorkNamesCause, WorkSound, WorkTakes, WorkTold, cache_after, cache_asked, cached_bytes, first_text, is_fetch, next_text, old_bytes, old_text, text_of, with_publish}
 use Rattle.bcv_upload.proofs.NextTexts.{base_block}
 use Rattle.bcv_upload.proofs.Owned.{base_put, blocks_stay_others, blocks_stay_put, has_at}
 

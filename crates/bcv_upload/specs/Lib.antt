@@ -1,4 +1,5 @@
 pub mod BlockText
+pub mod Inside
 pub mod State
 pub mod UploadDescent
 pub mod UploadPut

@@ -165,22 +165,6 @@ pub record IsRunning (s : State) : Type 0 where
 abbrev pub view_in : Held → TxnBase → List Writes
 view_in h base = view_of h base.from base.to
 
--- the edit with another id for a block
-abbrev pub listed_at : EditPlan → ℕ → Id16 → EditPlan
-listed_at (edit.Upload from e) n i = edit.Upload from (record e { blocks = slice_set e.blocks n i })
-listed_at p n i = p
-
--- the edit lists a block of this number
-abbrev pub HasPlace : EditPlan → ℕ → Type 0
-HasPlace (edit.Upload from e) n = n < length e.blocks
-HasPlace p n = ⊥
-
--- the plans that an upload keeps are those that a get and the put ask for
-pub record IsUpload (s : State) (asked plan : EditPlan) : Type 0 where
-  pub task : IsTask s
-  pub asked_is : asked ≡ asked_plan s
-  pub plan_is : plan ≡ plan_of s
-
 -- the set holds the upload's view: its commits have the base's page size, its size, and local pages in the same blocks
 pub record HoldsView (h : Held) (s : State) : Type 0 where
   pub can : CanView h s.base.from s.base.to

@@ -66,17 +66,6 @@ text_of base view n fetched es = view_block base view (old_bytes base view n fet
 abbrev pub cache_asked : TxnBase → List Writes → ℕ → Option (List ℕ) → Blocks → Blocks
 cache_asked base view n fetched c = if asks_cache base view n fetched then record c { entries = found_first (base_id base n) c.entries } else c
 
--- what there is of a block before its request: its bytes, or the id of old bytes that have to be fetched
-abbrev pub IsNext : TxnBase → List Writes → ℕ → Option (List ℕ) → List cache.Entry → NextText → Type 0
-IsNext base view n fetched es (next.Made bytes) =
-    (asks_store base view n fetched es ≡ false) × (bytes.items ≡ text_of base view n fetched es) × (length bytes.items ≡ base.block)
-IsNext base view n fetched es (next.Missing i) = (asks_store base view n fetched es ≡ true) × (i ≡ base_id base n)
-IsNext base view n fetched es next.NoMemory = asks_store base view n fetched es ≡ false
-
-abbrev pub made_text : Result (Vec ℕ) AllocError → NextText
-made_text (Ok bytes) = next.Made bytes
-made_text (Err e) = next.NoMemory
-
 -- of the next block of an upload
 abbrev pub is_fetch : List Writes → Blocks → State → Bool
 is_fetch view c s = asks_store s.base view (next_block s) s.fetched c.entries
@@ -146,16 +135,6 @@ FetchEnds o x block work.StoreFault kept = o ≢ outcome.Ok
 FetchEnds o x block work.NoMemory kept = Unit {0}
 FetchEnds o x block _ kept = ⊥
 
--- what is made of the store's answer to the get of a block
-abbrev pub FetchAnswered : Got → List ℕ → ℕ → Result (Vec ℕ) Work → Type 0
-FetchAnswered (got.Found etag) bytes block (Ok kept) = (kept.items ≡ bytes) × (length bytes ≡ block)
-FetchAnswered (got.Found etag) bytes block (Err result) = (result ≡ work.BadBlock (length bytes)) × (length bytes ≢ block)
-FetchAnswered got.Same bytes block result = ⊥
-FetchAnswered got.Missing bytes block result = result ≡ Err work.Gone
-FetchAnswered (got.TooLong len) bytes block result = result ≡ Err (work.BadBlock len)
-FetchAnswered got.Failed bytes block result = result ≡ Err work.StoreFault
-FetchAnswered got.NoMemory bytes block result = result ≡ Err work.NoMemory
-
 -- the get of a block from a store that tells its log
 pub record FetchTold (store : StoreTold) (old new : StoreShown) (id : Id16) (block : ℕ) (result : Work) (kept : Option (List ℕ)) : Type 0 where
   pub others : List Entry
@@ -164,18 +143,6 @@ pub record FetchTold (store : StoreTold) (old new : StoreShown) (id : Id16) (blo
   pub outcome : Outcome
   pub next : store.plans → outcome ≡ next_of old.plan
   pub ends : FetchEnds outcome (object_of (object.Block id) new.log) block result kept
-
--- what the get of a block says of the store, and its causes
-pub record BlockGets (store : StoreTold) (old new : StoreShown) (id : Id16) (block : ℕ) (result : Work) (kept : Option (List ℕ)) : Type 0 where
-  pub told : store.tells → FetchTold store old new id block result kept
-  pub taken : TakesOutcome store old new
-  pub later : old.faults ≤ new.faults
-  pub failed : result ≡ work.StoreFault → Rose old.faults new.faults
-
--- the put of a block says all that it says of its end, which is the answer
-abbrev pub PutsNext : StoreTold → StoreShown → StoreShown → NamesShown → NamesShown → List ℕ → List Id16 → Work → List Id16 → Type 0
-PutsNext store old new names later_names bytes ids result ids_new =
-    (end : BlockEnd) × (result ≡ block_work end) × BlockPuts store old new names later_names bytes ids end ids_new
 
 -- the put of a block, whose end is the answer
 abbrev pub PutTold : StoreTold → StoreShown → StoreShown → List Id16 → List ℕ → Work → Type 0

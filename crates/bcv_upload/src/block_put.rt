@@ -2,8 +2,9 @@
 ghost use Rattle.std.specs.Prelude.{◌≡◌, ◌<◌, length, vec_len};
 ghost use Rattle.bcv_dbmap.specs.declared.plan.EditPlan.TheVariants as edit;
 ghost use Rattle.bcv_publish.specs.BlockPut.{BlockPuts, block_work};
-ghost use Rattle.bcv_upload.specs.State.{HasPlace, IsTask, listed_at};
-ghost use Rattle.bcv_upload.specs.UploadWork.{BlockLeaves, PutsNext};
+ghost use Rattle.bcv_upload.specs.Inside.{HasPlace, PutsNext, listed_at};
+ghost use Rattle.bcv_upload.specs.State.{IsTask};
+ghost use Rattle.bcv_upload.specs.UploadWork.{BlockLeaves};
 
 use crate::upload::Upload;
 use bcv_base::{Id16, Names, Seq};

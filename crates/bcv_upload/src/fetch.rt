@@ -3,8 +3,9 @@ ghost use Rattle.std.specs.Prelude.{◌≡◌, ◌<◌, ◌≢◌, ℕ, None, le
 ghost use Rattle.std.specs.Option.{option_map};
 ghost use Rattle.bcv_store.specs.declared.store.Got.TheVariants as got;
 ghost use Rattle.bcv_store.specs.Within.{IsGotWithin};
+ghost use Rattle.bcv_upload.specs.Inside.{BlockGets, FetchAnswered};
 ghost use Rattle.bcv_upload.specs.State.{IsTask, old_id};
-ghost use Rattle.bcv_upload.specs.UploadWork.{BlockGets, FetchAnswered, FetchLeaves};
+ghost use Rattle.bcv_upload.specs.UploadWork.{FetchLeaves};
 
 use crate::upload::Upload;
 use bcv_base::{Id16, ObjName};

@@ -3,9 +3,10 @@ ghost use Rattle.std.specs.Prelude.{◌≡◌, ◌*◌, ◌<◌, length, IfSome}
 ghost use Rattle.std.specs.Option.{option_map};
 ghost use Rattle.bcv_base.specs.Views.{view_size};
 ghost use Rattle.bcv_pages.specs.Held.{CanView};
+ghost use Rattle.bcv_upload.specs.Inside.{IsNext, made_text};
 ghost use Rattle.bcv_upload.specs.BlockText.{per_block};
 ghost use Rattle.bcv_upload.specs.State.{IsBase, view_in};
-ghost use Rattle.bcv_upload.specs.UploadWork.{IsNext, cache_asked, made_text};
+ghost use Rattle.bcv_upload.specs.UploadWork.{cache_asked};
 
 use crate::block_text::{has_base, view_block};
 use bcv_base::{Id16, TxnBase};

@@ -35,7 +35,8 @@ pub struct Upload {
 
 impl Model for Upload {
     ghost use Rattle.std.specs.Prelude.{option_map};
-    ghost use Rattle.bcv_upload.specs.State.{State, IsUpload};
+    ghost use Rattle.bcv_upload.specs.State.{State};
+    ghost use Rattle.bcv_upload.specs.Inside.{IsUpload};
 
     ghost Value = { State };
 

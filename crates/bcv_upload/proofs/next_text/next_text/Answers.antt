@@ -2,12 +2,12 @@ use Rattle.std.proofs.Common.{◌≡◌, ◌∙◌, ◌<◌, ℕ, List, true, le
 use Rattle.std.specs.Global.{Vec}
 use Rattle.bcv_base.specs.declared.id.Id16.{Id16}
 use Rattle.bcv_cache.specs.Cache.{found_first, slot_of}
+use Rattle.bcv_upload.specs.Inside.{IsNext}
 use Rattle.bcv_upload.specs.BlockText.{has_base}
 use Rattle.bcv_upload.specs.State.{base_id, view_in}
-use Rattle.bcv_upload.specs.UploadWork.{IsNext, asks_store, cache_asked, cached_bytes}
+use Rattle.bcv_upload.specs.UploadWork.{asks_store, cache_asked, cached_bytes}
 use Rattle.bcv_upload.proofs.NextTexts.{base_block, cache_is, cached, id_read, is_fetched, made_next}
 use Rattle.bcv_upload.proofs.next_text.next_text.Goals as goal
-
 
 pub bounds-items-number : goal.bounds-items-number
 bounds-items-number c =
