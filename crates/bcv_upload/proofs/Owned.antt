@@ -77,9 +77,11 @@ blocks_after : (mine : List Id16) (past : List Item) (log : List Entry) (base : 
     → AreOwnBlocks mine past base view ids ns → AreOwnBlocks mine (history_after past log) base view ids ns
 blocks_after mine past log base view [] ns sound w stays own = tt
 blocks_after mine past log base view (i ∷ is) [] sound w stays own = absurd own
-blocks_after mine past log base view (i ∷ is) (n ∷ ns) sound w stays own =
-    (stays i own.0, first_after past log i (view_block base view (old_text past base n) n) own.1 ∙ ap (λ (old : List ℕ). Some (view_block base view old n)) (sym (text_after past log base n sound w)),
-    blocks_after mine past log base view is ns sound w stays own.2)
+blocks_after mine past log base view (i ∷ is) (n ∷ ns) sound w stays own = (
+  stays i own.0,
+  first_after past log i (view_block base view (old_text past base n) n) own.1 ∙ ap (λ (old : List ℕ). Some (view_block base view old n)) (sym (text_after past log base n sound w)),
+  blocks_after mine past log base view is ns sound w stays own.2,
+)
 
 owns_after : (mine : List Id16) (log more : List Entry) (view : List Writes) (s : State) → Sound (history_of log)
     → ((i : Id16) → IsOwnBlock mine (history_of log) s.base.block i → IsOwnBlock mine (history_after (history_of log) more) s.base.block i)

@@ -241,9 +241,11 @@ fits_plan s l t p =
     })
 
 pub fills : (s : State) → Fills (asked_plan s) (plan_of s)
-fills s =
-    (entry_with s.base s.size s.touched s.ids s.publish.id, refl,
-    record { name = refl; page_size = refl; pages = refl; blocks = λ i h. stays s.base.entry.blocks s.touched s.ids (needed s.base s.size) i h })
+fills s = (
+  entry_with s.base s.size s.touched s.ids s.publish.id,
+  refl,
+  record { name = refl; page_size = refl; pages = refl; blocks = λ i h. stays s.base.entry.blocks s.touched s.ids (needed s.base s.size) i h },
+)
 
 put_ready : (s : State) (l : Latest) → IsTask s → Ready s l → IsReady l.manifest (plan_of s) s.publish.writer
 put_ready s l t r =

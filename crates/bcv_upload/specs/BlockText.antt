@@ -22,10 +22,14 @@ has_base base view n = list_any (is_base base.entry.pages view) (pages_in base v
 abbrev pub page_at : ℕ → List ℕ → ℕ → Page
 page_at page_size bytes k = take page_size (drop (k * page_size) bytes)
 
--- page p of the view, where its block had these bytes in the base
+-- page p of the view, which stands at a place of a block that had these bytes in the base
+abbrev pub page_over : TxnBase → List Writes → List ℕ → ℕ → ℕ → Page
+page_over base view old place p =
+    page_from (page_at base.entry.page_size old place) (zeros base.entry.page_size) (origin base.entry.pages view p)
+
+-- page p of the view, in the block of a number
 abbrev pub view_page : TxnBase → List Writes → List ℕ → ℕ → ℕ → Page
-view_page base view old n p =
-    page_from (page_at base.entry.page_size old (p - (n * per_block base + 1))) (zeros base.entry.page_size) (origin base.entry.pages view p)
+view_page base view old n p = page_over base view old (p - (n * per_block base + 1)) p
 
 -- the bytes of a block of the view: its pages, and zeros past the view's size
 abbrev pub view_block : TxnBase → List Writes → List ℕ → ℕ → List ℕ

@@ -46,7 +46,8 @@ pub record IsUpload (s : State) (asked plan : EditPlan) : Type 0 where
 -- what there is of a block before its request: its bytes, or the id of old bytes that have to be fetched
 abbrev pub IsNext : TxnBase → List Writes → ℕ → Option (List ℕ) → List cache.Entry → NextText → Type 0
 IsNext base view n fetched es (next.Made bytes) =
-    (asks_store base view n fetched es ≡ false) × (bytes.items ≡ text_of base view n fetched es) × (length bytes.items ≡ base.block)
+    (asks_store base view n fetched es ≡ false)
+    × (bytes.items ≡ text_of base view n fetched es) × (length bytes.items ≡ base.block)
 IsNext base view n fetched es (next.Missing i) = (asks_store base view n fetched es ≡ true) × (i ≡ base_id base n)
 IsNext base view n fetched es next.NoMemory = asks_store base view n fetched es ≡ false
 
@@ -67,13 +68,15 @@ FetchAnswered got.Failed bytes block result = result ≡ Err work.StoreFault
 FetchAnswered got.NoMemory bytes block result = result ≡ Err work.NoMemory
 
 -- what the get of a block says of the store, and its causes
-pub record BlockGets (store : StoreTold) (old new : StoreShown) (id : Id16) (block : ℕ) (result : Work) (kept : Option (List ℕ)) : Type 0 where
+pub record BlockGets (store : StoreTold) (old new : StoreShown) (id : Id16) (block : ℕ) (result : Work)
+    (kept : Option (List ℕ)) : Type 0 where
   pub told : store.tells → FetchTold store old new id block result kept
   pub taken : TakesOutcome store old new
   pub later : old.faults ≤ new.faults
   pub failed : result ≡ work.StoreFault → Rose old.faults new.faults
 
 -- the put of a block says all that it says of its end, which is the answer
-abbrev pub PutsNext : StoreTold → StoreShown → StoreShown → NamesShown → NamesShown → List ℕ → List Id16 → Work → List Id16 → Type 0
+abbrev pub PutsNext : StoreTold → StoreShown → StoreShown → NamesShown → NamesShown → List ℕ → List Id16 → Work
+    → List Id16 → Type 0
 PutsNext store old new names later_names bytes ids result ids_new =
     (end : BlockEnd) × (result ≡ block_work end) × BlockPuts store old new names later_names bytes ids end ids_new

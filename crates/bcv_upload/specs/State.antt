@@ -18,9 +18,9 @@ use Rattle.bcv_publish.specs.State.{new_publish}
 use Rattle.bcv_publish.specs.State as publish
 use Rattle.bcv_upload.specs.BlockText.{IsViewOf, per_block}
 
--- an upload: the base of its view; the view's size, in pages; the blocks that hold a local page, ascending; the ids under
--- which the first of them were put; the old bytes of the next one, where a get brought them; its publication; and whether
--- the edit was published
+-- an upload: the base of its view; the view's size, in pages; the blocks that hold a local page, ascending; the ids
+-- under which the first of them were put; the old bytes of the next one, where a get brought them; its publication; and
+-- whether the edit was published
 pub record State : Type 0 where
   pub base : TxnBase
   pub size : ℕ
@@ -32,7 +32,15 @@ pub record State : Type 0 where
 
 abbrev pub new_upload : TxnBase → ℕ → List ℕ → Id16 → Id16 → State
 new_upload base size touched writer id =
-    record { base = base; size = size; touched = touched; ids = []; fetched = None; publish = new_publish writer id; published = false }
+    record {
+      base = base;
+      size = size;
+      touched = touched;
+      ids = [];
+      fetched = None;
+      publish = new_publish writer id;
+      published = false;
+    }
 
 -- ---- the edit
 
@@ -153,7 +161,8 @@ pub record IsTask (s : State) : Type 0 where
   pub fetched : IfSome s.fetched (IsFetched s)
   pub read : s.published ≡ false → IfSome s.publish.latest (Passed s)
 
--- what a caller keeps of an upload from call to call: it is one, it was not published, and fewer than eight puts were refused
+-- what a caller keeps of an upload from call to call: it is one, it was not published, and fewer than eight puts were
+-- refused
 pub record IsRunning (s : State) : Type 0 where
   pub task : IsTask s
   pub waits : s.published ≡ false
@@ -164,6 +173,10 @@ pub record IsRunning (s : State) : Type 0 where
 -- the view of an upload, in the set that holds its commits
 abbrev pub view_in : Held → TxnBase → List Writes
 view_in h base = view_of h base.from base.to
+
+-- its size, in pages
+abbrev pub size_in : Held → TxnBase → ℕ
+size_in h base = view_size base.entry.pages (view_in h base)
 
 -- the set holds the upload's view: its commits have the base's page size, its size, and local pages in the same blocks
 pub record HoldsView (h : Held) (s : State) : Type 0 where

@@ -20,11 +20,12 @@ requests_of s = manifest_requests s.publish.latest
 abbrev pub IsBelow : State → State → Type 0
 IsBelow new old =
     (refusals_of new < refusals_of old)
-    ⊎ ((refusals_of new ≡ refusals_of old) × ((requests_of new < requests_of old) ⊎ ((requests_of new ≡ requests_of old) × (left_of new < left_of old))))
+    ⊎ ((refusals_of new ≡ refusals_of old)
+    × ((requests_of new < requests_of old) ⊎ ((requests_of new ≡ requests_of old) × (left_of new < left_of old))))
 
--- how many of the requests that are left a step makes needless: two where it puts a block for which no get was made
-abbrev pub saved_by : Bool → State → ℕ
-saved_by fetch s = if fetch then 1 else (if is_some s.fetched then 1 else 2)
+-- by how much a step lowers the requests that are left: by two where it puts a block for which no get was made
+abbrev pub lowered_by : Bool → State → ℕ
+lowered_by fetch s = if fetch then 1 else (if is_some s.fetched then 1 else 2)
 
 -- a step of work that goes on lowers the state
 abbrev pub WorkFalls : Type 0
@@ -35,8 +36,9 @@ WorkFalls =
 -- the get of old bytes lowers the requests that are left by one, and so does the put after it; a put with none by two
 abbrev pub LeftFalls : Type 0
 LeftFalls =
-    (l : Latest) (fetch : Bool) (seen : Seen) (old new : State) → IsTask old → old.published ≡ false → is_ready old ≡ false
-    → old.publish.latest ≡ Some l → WorkLeaves (Some l) fetch seen old work.More new → left_of old ≡ left_of new + saved_by fetch old
+    (l : Latest) (fetch : Bool) (seen : Seen) (old new : State) → IsTask old → old.published ≡ false
+    → is_ready old ≡ false → old.publish.latest ≡ Some l → WorkLeaves (Some l) fetch seen old work.More new
+    → left_of old ≡ left_of new + lowered_by fetch old
 
 -- a put that is refused lowers the state, and two requests are left then: no block is put again
 abbrev pub PutFalls : Type 0

@@ -38,7 +38,9 @@ behind_put s p end = record s { publish = p; published = is_published end }
 
 -- whatever the store: the publication's put of the upload's edit, and nothing else of the upload has changed
 abbrev pub PutLeaves : ℕ → State → Latest → PutEnd → State → Type 0
-PutLeaves moment old read result new = (p : publish.State) × publishing.PutLeaves (plan_of old) moment old.publish read result p × (new ≡ behind_put old p result)
+PutLeaves moment old read result new =
+    (p : publish.State) × publishing.PutLeaves (plan_of old) moment old.publish read result p
+    × (new ≡ behind_put old p result)
 
 -- the publication may come after a log: what was read is there, its id is a fresh one of mine, and so are its blocks
 pub record MayPut (mine : List Id16) (log : List Entry) (view : List Writes) (s : State) (read : Latest) : Type 0 where
@@ -52,23 +54,27 @@ pub record MayPut (mine : List Id16) (log : List Entry) (view : List Writes) (s 
 
 -- the image of a view over its base, as a history has it
 abbrev pub view_over : List Item → TxnBase → List Writes → List Page
-view_over past base view = view_image base.entry.page_size (image_of past base.entry.pages base.entry.page_size base.entry.blocks) view
+view_over past base view =
+    view_image base.entry.page_size (image_of past base.entry.pages base.entry.page_size base.entry.blocks) view
 
 -- an upload that has put all its blocks publishes exactly the view
 abbrev pub UploadedIsTheView : Type 0
 UploadedIsTheView =
-    (mine : List Id16) (log : List Entry) (view : List Writes) (s : State) → Sound (history_of log) → IsTask s → is_ready s ≡ true
-    → IsViewOf s.base view s.size s.touched → list_all (is_commit s.base.entry.page_size) view ≡ true → OwnsBlocks mine log view s
-    → edit_of (history_of log) (plan_of s) ≡ edits.Upload s.base.entry.name s.base.entry.page_size (view_over (history_of log) s.base view)
+    (mine : List Id16) (log : List Entry) (view : List Writes) (s : State) → Sound (history_of log) → IsTask s
+    → is_ready s ≡ true → IsViewOf s.base view s.size s.touched
+    → list_all (is_commit s.base.entry.page_size) view ≡ true → OwnsBlocks mine log view s
+    → edit_of (history_of log) (plan_of s)
+    ≡ edits.Upload s.base.entry.name s.base.entry.page_size (view_over (history_of log) s.base view)
 
 -- what an upload stands on and has put stays while others append lawful entries
 abbrev pub BlocksStay : Type 0
 BlocksStay =
-    (mine : List Id16) (log others : List Entry) (view : List Writes) (s : State) → Sound (history_of log) → AreLawful mine (history_of log) others
-    → OwnsBlocks mine log view s → OwnsBlocks mine (log ++ others) view s
+    (mine : List Id16) (log others : List Entry) (view : List Writes) (s : State) → Sound (history_of log)
+    → AreLawful mine (history_of log) others → OwnsBlocks mine log view s → OwnsBlocks mine (log ++ others) view s
 
 -- it stays after one more own block
 abbrev pub BlocksStayAfterPut : Type 0
 BlocksStayAfterPut =
-    (mine : List Id16) (log : List Entry) (view : List Writes) (s : State) (i : Id16) (bytes : List ℕ) (etag : ℕ) → Sound (history_of log)
-    → OwnsBlocks mine log view s → OwnsBlocks mine (log ++ entry.Put true (object.Block i) bytes etag ∷ []) view s
+    (mine : List Id16) (log : List Entry) (view : List Writes) (s : State) (i : Id16) (bytes : List ℕ) (etag : ℕ)
+    → Sound (history_of log) → OwnsBlocks mine log view s
+    → OwnsBlocks mine (log ++ entry.Put true (object.Block i) bytes etag ∷ []) view s

@@ -1,10 +1,9 @@
 //! The bytes of a block of a view.
-ghost use Rattle.std.specs.Prelude.{◌≡◌, ◌≤◌, ◌<◌, ◌+◌, ◌-◌, ◌*◌, ◌^◌, true, min, length, vec_len, IfOk, OnOk, ◌++◌, IsOk, is_ok, if◌then◌else◌};
-ghost use Rattle.bcv_base.specs.Image.{is_base, zeros};
-ghost use Rattle.bcv_base.specs.Views.{origin, page_from, view_size};
+ghost use Rattle.std.specs.Prelude.{◌≡◌, ◌≤◌, ◌<◌, ◌+◌, ◌-◌, ◌*◌, ◌^◌, ◌++◌, true, min, length, vec_len, IfOk, OnOk};
+ghost use Rattle.bcv_base.specs.Image.{is_base};
 ghost use Rattle.bcv_pages.specs.Held.{CanView};
-ghost use Rattle.bcv_upload.specs.BlockText.{has_base, page_at, per_block, view_block};
-ghost use Rattle.bcv_upload.specs.State.{IsBase, view_in};
+ghost use Rattle.bcv_upload.specs.BlockText.{has_base, page_over, per_block, view_block};
+ghost use Rattle.bcv_upload.specs.State.{IsBase, size_in, view_in};
 
 use bcv_base::TxnBase;
 use bcv_pages::{PageAt, PageSet};
@@ -14,7 +13,7 @@ use std::alloc::{AllocError, Global};
 pub(crate) fn has_base(base: &TxnBase, pages: &PageSet, number: u32) -> bool
     requires base { IsBase base.now }
     requires view { CanView pages.now base.now.from base.now.to }
-    requires inside { number * per_block base.now < view_size base.now.entry.pages (view_in pages.now base.now) }
+    requires inside { number * per_block base.now < size_in pages.now base.now }
     ensures { result ≡ has_base base.now (view_in pages.now base.now) number }
 {
     let (before, count) = page_span(base, pages, number);
@@ -26,8 +25,8 @@ pub(crate) fn has_base(base: &TxnBase, pages: &PageSet, number: u32) -> bool
     false
 }
 
-/// The bytes of a block of a view, by its number from 0: its pages, and zeros past the view's size. Where the block holds
-/// a page of the base, `old` has its bytes there.
+/// The bytes of a block of a view, by its number from 0: its pages, and zeros past the view's size. Where the block
+/// holds a page of the base, `old` has its bytes there.
 pub(crate) fn view_block(
     alloc: Global,
     base: &TxnBase,
@@ -38,9 +37,10 @@ pub(crate) fn view_block(
     requires base { IsBase base.now }
     requires view { CanView pages.now base.now.from base.now.to }
     requires page_size { pages.now.page_size ≡ base.now.entry.page_size }
-    requires inside { number * per_block base.now < view_size base.now.entry.pages (view_in pages.now base.now) }
+    requires inside { number * per_block base.now < size_in pages.now base.now }
     requires old { has_base base.now (view_in pages.now base.now) number ≡ true → length old.now ≡ base.now.block }
-    ensures bytes { IfOk result (λ bytes. bytes.items ≡ view_block base.now (view_in pages.now base.now) old.now number) }
+    ensures bytes { IfOk result (λ bytes.
+        bytes.items ≡ view_block base.now (view_in pages.now base.now) old.now number) }
     ensures whole { IfOk result (λ bytes. length bytes.items ≡ base.now.block) }
 {
     let (before, count) = page_span(base, pages, number);
@@ -56,7 +56,7 @@ pub(crate) fn view_block(
 fn is_base(base: &TxnBase, pages: &PageSet, page: u32) -> bool
     requires view { CanView pages.now base.now.from base.now.to }
     requires first { 1 ≤ page }
-    requires last { page ≤ view_size base.now.entry.pages (view_in pages.now base.now) }
+    requires last { page ≤ size_in pages.now base.now }
     ensures { result ≡ is_base base.now.entry.pages (view_in pages.now base.now) page }
 {
     match pages.find(base.entry.pages, base.from, base.to, page) {
@@ -70,10 +70,11 @@ fn is_base(base: &TxnBase, pages: &PageSet, page: u32) -> bool
 fn page_span(base: &TxnBase, pages: &PageSet, number: u32) -> (u32, u32)
     requires base { IsBase base.now }
     requires view { CanView pages.now base.now.from base.now.to }
-    requires inside { number * per_block base.now < view_size base.now.entry.pages (view_in pages.now base.now) }
+    requires inside { number * per_block base.now < size_in pages.now base.now }
     ensures before { result.0 ≡ number * per_block base.now }
-    ensures count { result.1 ≡ min (per_block base.now) (view_size base.now.entry.pages (view_in pages.now base.now) - number * per_block base.now) }
-    ensures within { result.0 + result.1 ≤ view_size base.now.entry.pages (view_in pages.now base.now) }
+    ensures count { result.1
+        ≡ min (per_block base.now) (size_in pages.now base.now - number * per_block base.now) }
+    ensures within { result.0 + result.1 ≤ size_in pages.now base.now }
     ensures small { result.0 + result.1 < 2 ^ 32 }
 {
     let per_block = base.block / base.entry.page_size;
@@ -94,10 +95,12 @@ fn push_page(
     requires view { CanView pages.now base.now.from base.now.to }
     requires page_size { pages.now.page_size ≡ base.now.entry.page_size }
     requires first { 1 ≤ page }
-    requires last { page ≤ view_size base.now.entry.pages (view_in pages.now base.now) }
+    requires last { page ≤ size_in pages.now base.now }
     requires short { vec_len bytes.old + base.now.entry.page_size ≤ 16777216 }
-    requires old { is_base base.now.entry.pages (view_in pages.now base.now) page ≡ true → (place + 1) * base.now.entry.page_size ≤ length old.now }
-    ensures added { OnOk result (bytes.new.items ≡ bytes.old.items ++ page_from (page_at base.now.entry.page_size old.now place) (zeros base.now.entry.page_size) (origin base.now.entry.pages (view_in pages.now base.now) page)) }
+    requires old { is_base base.now.entry.pages (view_in pages.now base.now) page ≡ true →
+        (place + 1) * base.now.entry.page_size ≤ length old.now }
+    ensures added { OnOk result (bytes.new.items
+        ≡ bytes.old.items ++ page_over base.now (view_in pages.now base.now) old.now place page) }
     ensures longer { OnOk result (vec_len bytes.new ≡ vec_len bytes.old + base.now.entry.page_size) }
 {
     let page_size = base.entry.page_size as usize;

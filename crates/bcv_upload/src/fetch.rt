@@ -20,7 +20,8 @@ impl Upload {
         requires none { self.old.fetched ≡ None }
         requires id { id ≡ old_id self.old }
         ensures leaves { FetchLeaves self.old result self.new }
-        ensures gets { BlockGets S.told (S.shown store.old) (S.shown store.new) id self.old.base.block result self.new.fetched }
+        ensures gets { BlockGets S.told (S.shown store.old) (S.shown store.new)
+            id self.old.base.block result self.new.fetched }
         ensures reached { S.reaches store.old store.new }
         ensures task { IsTask self.new }
     {

@@ -2,8 +2,8 @@
 ghost use Rattle.bcv_upload.specs.UploadDescent.{LeftFalls, PutFalls, WorkFalls};
 ghost use Rattle.bcv_upload.specs.UploadPut.{BlocksStay, BlocksStayAfterPut, UploadedIsTheView};
 
-/// An upload that has put all its blocks publishes exactly the image of its view. A client says by it which edit of the
-/// machine a put is.
+/// An upload that has put all its blocks publishes exactly the image of its view. A client says by it which edit of
+/// the machine a put is.
 pub fn uploaded_is_the_view()
     ensures { UploadedIsTheView }
 {}
@@ -14,8 +14,8 @@ pub fn blocks_stay()
     ensures put { BlocksStayAfterPut }
 {}
 
-/// By how much a step lowers the requests that are left: by one for each request that it makes, and by one more where it
-/// puts a block for which no get was needed.
+/// By how much a step lowers the requests that are left: by one for each request that it makes, and by one more where
+/// it puts a block for which no get was needed.
 pub fn left_falls()
     ensures { LeftFalls }
 {}

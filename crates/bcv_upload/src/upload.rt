@@ -1,11 +1,11 @@
-ghost use Rattle.std.specs.Prelude.{◌≡◌, ◌≤◌, IfOk, IsOk, List};
+ghost use Rattle.std.specs.Prelude.{◌≡◌, ◌≤◌, IfOk};
 ghost use Rattle.std.specs.Option.{option_copied};
 ghost use Rattle.bcv_base.specs.SizeLimits.{most_blocks};
-ghost use Rattle.bcv_base.specs.Views.{touched_blocks, view_size};
+ghost use Rattle.bcv_base.specs.Views.{touched_blocks};
 ghost use Rattle.bcv_dbmap.specs.declared.plan.EditPlan.TheVariants as edit;
 ghost use Rattle.bcv_pages.specs.Held.{CanView};
 ghost use Rattle.bcv_upload.specs.BlockText.{per_block};
-ghost use Rattle.bcv_upload.specs.State.{HoldsView, IsBase, IsRunning, IsTask, entry_with, is_ready, left_of, manifest_requests, needed, new_upload, plan_of, view_in};
+ghost use Rattle.bcv_upload.specs.State.{HoldsView, IsBase, IsRunning, IsTask, entry_with, is_ready, left_of, manifest_requests, needed, new_upload, plan_of, size_in, view_in};
 
 use crate::view_entry::{copy_base, view_entry};
 use bcv_base::{DbEntry, Id16, Latest, TxnBase};
@@ -19,9 +19,9 @@ use std::marker::Model;
 /// `ready`, and then `put`. After a publication there is neither.
 #[derive(Drop)]
 pub struct Upload {
-    // What the view stands on; its size in pages; the edit that a get asks for, with zeros for each block that is put,
-    // and the edit that is published; the numbers of the blocks with a local page, and the ids under which the first of
-    // them were put; and the old bytes of the next one, where a get brought them.
+    // What the view stands on; its size in pages; the edit that a get asks for, with zeros for each block that is
+    // put, and the edit that is published; the numbers of the blocks with a local page, and the ids under which the
+    // first of them were put; and the old bytes of the next one, where a get brought them.
     pub(crate) base: TxnBase,
     pub(crate) size: u32,
     pub(crate) asked: EditPlan,
@@ -46,8 +46,8 @@ impl Model for Upload {
 }
 
 impl Upload {
-    /// An upload of a view by a writer that publishes under a drawn id. Nothing is asked of the store yet. `work` is to be
-    /// handed the same view.
+    /// An upload of a view by a writer that publishes under a drawn id. Nothing is asked of the store yet. `work` is
+    /// to be handed the same view.
     pub fn new(
         alloc: Global,
         base: &TxnBase,
@@ -58,9 +58,8 @@ impl Upload {
         requires base { IsBase base.now }
         requires view { CanView pages.now base.now.from base.now.to }
         requires page_size { pages.now.page_size ≡ base.now.entry.page_size }
-        requires few { needed base.now (view_size base.now.entry.pages (view_in pages.now base.now)) ≤ most_blocks }
-        ensures upload { IfOk result (λ u. u ≡ new_upload base.now
-            (view_size base.now.entry.pages (view_in pages.now base.now))
+        requires few { needed base.now (size_in pages.now base.now) ≤ most_blocks }
+        ensures upload { IfOk result (λ u. u ≡ new_upload base.now (size_in pages.now base.now)
             (touched_blocks (per_block base.now) base.now.entry.pages (view_in pages.now base.now)) writer id) }
         ensures running { IfOk result IsRunning }
         ensures view { IfOk result (λ u. HoldsView pages.now u) }
@@ -116,10 +115,11 @@ impl Upload {
         self.publish.latest().is_some() && self.left() == 1
     }
 
-    /// The entry that is published, tagged with the publication's id. It is whole once the upload is ready; before that
-    /// zeros stand for the blocks that are still to be put.
+    /// The entry that is published, tagged with the publication's id. It is whole once the upload is ready; before
+    /// that zeros stand for the blocks that are still to be put.
     pub fn entry(&self) -> &DbEntry
-        ensures entry { result.now ≡ entry_with self.now.base self.now.size self.now.touched self.now.ids self.now.publish.id }
+        ensures entry { result.now
+            ≡ entry_with self.now.base self.now.size self.now.touched self.now.ids self.now.publish.id }
         ensures plan { plan_of self.now ≡ edit.Upload self.now.base.entry.tag result.now }
     {
         match &self.plan {

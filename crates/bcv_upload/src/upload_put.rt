@@ -1,10 +1,9 @@
 //! The manifest's put of an upload.
-ghost use Rattle.std.specs.Prelude.{◌≡◌, true, MatchOption};
+ghost use Rattle.std.specs.Prelude.{◌≡◌, true, List, MatchOption};
 ghost use Rattle.bcv_publish.specs.ManifestPut.{ManifestPutSound, ManifestPuts};
 ghost use Rattle.bcv_publish.specs.Request.{OverSoundLog};
 ghost use Rattle.bcv_base.specs.declared.id.Id16.{Id16};
 ghost use Rattle.bcv_base.specs.Image.{Writes};
-ghost use Rattle.std.specs.Prelude.{List};
 ghost use Rattle.bcv_upload.specs.State.{IsRunning, is_ready, left_of, plan_of};
 ghost use Rattle.bcv_upload.specs.UploadPut.{MayPut, PutLeaves, is_published};
 
@@ -14,14 +13,15 @@ use bcv_store::Store;
 use std::alloc::Global;
 
 impl Upload {
-    /// Publishes the edit over the manifest that is kept, where it is still the one that was read. This is one request to
-    /// the store, or none where memory runs out before it. After `Refused` the manifest is read again, and the blocks that
-    /// were put are kept; after `Published` and `Contended` the upload has ended. `Unknown` leaves the upload as it was;
-    /// the put must not be tried again before it is known what became of it.
+    /// Publishes the edit over the manifest that is kept, where it is still the one that was read. This is one
+    /// request to the store, or none where memory runs out before it. After `Refused` the manifest is read again, and
+    /// the blocks that were put are kept; after `Published` and `Contended` the upload has ended. `Unknown` leaves
+    /// the upload as it was; the put must not be tried again before it is known what became of it.
     pub fn put<S: Store>(&mut self, alloc: Global, store: &mut S, moment: u64) -> PutEnd
         requires running { IsRunning self.old }
         requires ready { is_ready self.old ≡ true }
-        ensures leaves { MatchOption self.old.publish.latest ⊥ (λ read. PutLeaves moment self.old read result self.new) }
+        ensures leaves { MatchOption self.old.publish.latest ⊥ (λ read.
+            PutLeaves moment self.old read result self.new) }
         ensures puts { MatchOption self.old.publish.latest ⊥ (λ read.
             ManifestPuts S.told (S.shown store.old) (S.shown store.new)
             self.old.publish read (plan_of self.old) moment result self.new.publish) }

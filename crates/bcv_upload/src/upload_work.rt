@@ -14,10 +14,10 @@ use bcv_store::Store;
 use std::alloc::Global;
 
 impl Upload {
-    /// Gets the manifest, where none is kept. Else it puts the next block under a name that is drawn for it, or, where the
-    /// block keeps a page of the base and its old bytes are not in the cache, gets those first. This is one request to the
-    /// store, or none where no name or no memory was had for it. Every answer but `More` ends the upload; the blocks that
-    /// were put stay in the container, and no manifest lists them.
+    /// Gets the manifest, where none is kept. Else it puts the next block under a name that is drawn for it, or,
+    /// where the block keeps a page of the base and its old bytes are not in the cache, gets those first. This is one
+    /// request to the store, or none where no name or no memory was had for it. Every answer but `More` ends the
+    /// upload; the blocks that were put stay in the container, and no manifest lists them.
     pub fn work<S: Store, N: Names>(
         &mut self,
         alloc: Global,
@@ -32,9 +32,10 @@ impl Upload {
         requires view { HoldsView pages.now self.old }
         requires seen { seen.now.block ≡ Some self.old.base.block }
         requires cache { cache.old.block ≡ self.old.base.block }
-        ensures leaves { WorkLeaves self.old.publish.latest (is_fetch (view_in pages.now self.old.base) cache.old self.old)
-            seen.now self.old result self.new }
-        ensures cache { cache.new ≡ cache_after self.old.publish.latest (view_in pages.now self.old.base) self.old cache.old }
+        ensures leaves { WorkLeaves self.old.publish.latest
+            (is_fetch (view_in pages.now self.old.base) cache.old self.old) seen.now self.old result self.new }
+        ensures cache { cache.new
+            ≡ cache_after self.old.publish.latest (view_in pages.now self.old.base) self.old cache.old }
         ensures works { TaskWorks S.told (S.shown store.old) (S.shown store.new) (N.shown names.old) (N.shown names.new)
             seen.now (view_in pages.now self.old.base) cache.old self.old result self.new }
         ensures reached { S.reaches store.old store.new }

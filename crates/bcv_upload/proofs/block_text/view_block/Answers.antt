@@ -11,15 +11,20 @@ push_page-requires-clause-old c =
     λ is.
     let there = base_there c.args.base.now (view_in c.args.pages.now c.args.base.now) c.args.number c.page_span-before.result.0 c.page_span-before.result.1 c.loop-place.place
     c.page_span-before.ensures.before c.page_span-before.ensures.count c.loop-place-test.true is in
-    omega (arith, c.requires.old there, page_inside c.args.base.now c.loop-place.place c.page_span-before.result.1 (view_size c.args.base.now.entry.pages (view_in c.args.pages.now c.args.base.now) - c.args.number * per_block c.args.base.now)
-    (full_of c.args.base.now c.requires.base) c.loop-place-test.true c.page_span-before.ensures.count)
+    omega (
+      arith,
+      c.requires.old there,
+      page_inside c.args.base.now c.loop-place.place c.page_span-before.result.1 (view_size c.args.base.now.entry.pages (view_in c.args.pages.now c.args.base.now) - c.args.number * per_block c.args.base.now)
+          (full_of c.args.base.now c.requires.base) c.loop-place-test.true c.page_span-before.ensures.count,
+    )
 
 pub loop-place-preserved : goal.loop-place-preserved
-loop-place-preserved c =
-    (text_next (view_page c.args.base.now (view_in c.args.pages.now c.args.base.now) c.args.old.now c.args.number) c.page_span-before.result.0 c.loop-place.place c.args.base.now.entry.page_size
-    _ _ _ c.loop-place.invariant.0 c.in_ok-push_page.ensures.added
-    (page_here c.args.base.now (view_in c.args.pages.now c.args.base.now) c.args.old.now c.args.number c.page_span-before.result.0 c.loop-place.place c.page_span-before.ensures.before),
-    one_page_more _ c.args.base.now.entry.page_size c.loop-place.place _ (c.loop-place.bytes.ok.0 ∙ c.loop-place.invariant.1) (sym c.push_page.new.bytes.ok.0 ∙ c.in_ok-push_page.ensures.longer))
+loop-place-preserved c = (
+  text_next (view_page c.args.base.now (view_in c.args.pages.now c.args.base.now) c.args.old.now c.args.number) c.page_span-before.result.0 c.loop-place.place c.args.base.now.entry.page_size
+      _ _ _ c.loop-place.invariant.0 c.in_ok-push_page.ensures.added
+      (page_here c.args.base.now (view_in c.args.pages.now c.args.base.now) c.args.old.now c.args.number c.page_span-before.result.0 c.loop-place.place c.page_span-before.ensures.before),
+  one_page_more _ c.args.base.now.entry.page_size c.loop-place.place _ (c.loop-place.bytes.ok.0 ∙ c.loop-place.invariant.1) (sym c.push_page.new.bytes.ok.0 ∙ c.in_ok-push_page.ensures.longer),
+)
 
 pub returns-clause-bytes : goal.returns-clause-bytes
 returns-clause-bytes c =

@@ -42,9 +42,11 @@ pub returns-in-None-clause-next : goal.returns-in-None-clause-next
 returns-in-None-clause-next c =
     let view = view_in c.args.pages.now c.args.base.now in
     let has = sym c.has_base.ensures ∙ c.if-not-has_base.false in
-    let id = id_read c.args.base.now.entry.blocks c.items.result.now c.args.number _ c.items.ensures (base_block c.args.base.now view c.args.number c.requires.base has) in
-    (subst (λ (o : Option (Vec ℕ)). asks_store c.args.base.now view c.args.number (option_map (λ b. b.items) o) c.args.cache.now.entries ≡ true) (sym c.in_default.is)
-    (is_fetched c.args.base.now view c.args.number has c.args.cache.now.entries (c.in-None.ensures.slot ∙ ap (λ (i : Id16). slot_of i c.args.cache.now.entries) id)), id)
+    let id = id_read c.args.base.now.entry.blocks c.items.result.now c.args.number _ c.items.ensures (base_block c.args.base.now view c.args.number c.requires.base has) in (
+      subst (λ (o : Option (Vec ℕ)). asks_store c.args.base.now view c.args.number (option_map (λ b. b.items) o) c.args.cache.now.entries ≡ true) (sym c.in_default.is)
+          (is_fetched c.args.base.now view c.args.number has c.args.cache.now.entries (c.in-None.ensures.slot ∙ ap (λ (i : Id16). slot_of i c.args.cache.now.entries) id)),
+      id,
+    )
 
 pub returns-in-None-clause-cache : goal.returns-in-None-clause-cache
 returns-in-None-clause-cache c =

@@ -12,8 +12,13 @@ loop-number-init c =
 
 pub index_mut-requires : goal.index_mut-requires
 index_mut-requires c =
-    omega (arith, c.loop-number.ids.ok.0, ap length c.loop-number.invariant, length-map-range_with_len (block_id c.args.base.now (take c.loop-number.number-index c.args.touched.now) []) 0 c.args.needed,
-    all_at (λ n. n < c.args.needed) c.args.touched.now c.loop-number.number-index c.requires.within c.loop-number-test.true)
+    omega (
+      arith,
+      c.loop-number.ids.ok.0,
+      ap length c.loop-number.invariant,
+      length-map-range_with_len (block_id c.args.base.now (take c.loop-number.number-index c.args.touched.now) []) 0 c.args.needed,
+      all_at (λ n. n < c.args.needed) c.args.touched.now c.loop-number.number-index c.requires.within c.loop-number-test.true,
+    )
 
 pub loop-number-preserved : goal.loop-number-preserved
 loop-number-preserved c =

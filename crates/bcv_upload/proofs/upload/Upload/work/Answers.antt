@@ -6,7 +6,6 @@ use Rattle.bcv_upload.specs.declared.upload.Upload.TheInside.{Inside}
 use Rattle.bcv_upload.specs.declared.next_text.NextText.TheVariants as text
 use Rattle.bcv_upload.specs.BlockText.{IsViewOf}
 use Rattle.bcv_upload.specs.State.{State, IsTask, view_in}
-
 use Rattle.bcv_upload.proofs.BlockWorks.{block_works, none_works}
 use Rattle.bcv_upload.proofs.Tasks.{cache_at, has_next, next_at, next_inside}
 use Rattle.bcv_upload.proofs.WorkLaws.{cache_is, fetch_leaves, fetch_works, made_leaves, read_works}
