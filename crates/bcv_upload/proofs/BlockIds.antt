@@ -1,13 +1,15 @@
 -- The ids of the entry of a view: what one more id changes, and which ids there are.
-use Rattle.std.proofs.Common.{◌≡◌, ◌∙◌, ◌⊎◌, inl, inr, ℕ, zero, suc, ◌+◌, ◌-◌, ◌<◌, ◌≤◌, Bool, true, false, ◌==◌, ◌||◌, cond, min, List, [], ◌∷◌, ◌++◌, length, map, take, replicate, get_or, slice_get, slice_set, Option, Some, None, unwrap_or, refl, sym, ap, subst, arith, length-append, length-take}
+use Rattle.std.proofs.Common.{◌≡◌, ◌∙◌, ◌⊎◌, inl, inr, ℕ, zero, suc, ◌+◌, ◌-◌, ◌<◌, ◌≤◌, Bool, true, false, ◌==◌, ◌||◌, cond, min, List, [], ◌∷◌, ◌++◌, length, map, take, replicate, get_or, slice_set, Option, Some, unwrap_or, refl, sym, ap, arith, length-append, length-take}
 use Rattle.std.specs.List.{AllByRecursion, range_with_len}
-use Rattle.std.proofs.lemmas.Bool.{cases_lt, eqb-true, ne_eqb}
+use Rattle.std.proofs.lemmas.Bool.{cases_lt, eq-eqb, eqb-true, ne_eqb}
 use Rattle.std.proofs.lemmas.List.{get_or-take, get_or_append_left, get_or-append_right, get_or-replicate, length-replicate, take_all, take_more}
 use Rattle.std.proofs.lemmas.List.FromFn.{fill_by_all}
 use Rattle.std.proofs.lemmas.Option.{unwrap_or-slice_get, slice_get_past}
 use Rattle.bcv_base.specs.declared.id.Id16.{Id16}
 use Rattle.bcv_dbmap.specs.Checked.{zero_id}
 use Rattle.bcv_upload.specs.State.{id_at, is_among, kept_id, put_id, block_id, ids_with}
+use Rattle.bcv_dbmap.proofs.Bools.{or_right}
+use Rattle.bcv_upload.proofs.Bools.{or_false, or_none, or_or}
 use Rattle.bcv_upload.proofs.BlockNumbers.{Rises}
 
 -- ---- a write in a list that is made by a function
@@ -35,26 +37,7 @@ set_range f g a (suc n) (suc k) y within at others =
 
 among_push : (m n : ℕ) (ns : List ℕ) → is_among m (ns ++ n ∷ []) ≡ (is_among m ns || (n == m))
 among_push m n [] = or_none (n == m)
-  where
-    or_none : (b : Bool) → (b || false) ≡ b
-    or_none true = refl
-    or_none false = refl
 among_push m n (k ∷ ks) = ap (λ (b : Bool). (k == m) || b) (among_push m n ks) ∙ or_or (k == m) (is_among m ks) (n == m)
-  where
-    or_or : (a b c : Bool) → (a || (b || c)) ≡ ((a || b) || c)
-    or_or true b c = refl
-    or_or false b c = refl
-
-or_right : (a b : Bool) → b ≡ true → (a || b) ≡ true
-or_right true b h = refl
-or_right false b h = h
-
-or_false : (a b : Bool) → b ≡ false → (a || b) ≡ a
-or_false true b h = refl
-or_false false b h = h
-
-same_eqb : (a b : ℕ) → a ≡ b → (a == b) ≡ true
-same_eqb a b same = grind (arith, same)
 
 -- zeros for the first touched blocks, and for one more
 pub zeroed_more : (blocks : List Id16) (touched : List ℕ) (k count : ℕ) → k < length touched → get_or touched k 0 < count
@@ -64,7 +47,7 @@ zeroed_more blocks touched k count there within =
     let more : take (k + 1) touched ≡ take k touched ++ n ∷ [] = take_more touched k 0 there in
     let among : (m : ℕ) → is_among m (take (k + 1) touched) ≡ (is_among m (take k touched) || (n == m)) = λ m. ap (is_among m) more ∙ among_push m n (take k touched) in
     set_range (block_id blocks (take k touched) []) (block_id blocks (take (k + 1) touched) []) 0 count n zero_id within
-    (ap (λ (b : Bool). cond b zero_id (id_at blocks (0 + n))) (among (0 + n) ∙ or_right (is_among (0 + n) (take k touched)) (n == (0 + n)) (same_eqb n (0 + n) (omega arith))))
+    (ap (λ (b : Bool). cond b zero_id (id_at blocks (0 + n))) (among (0 + n) ∙ or_right (is_among (0 + n) (take k touched)) (n == (0 + n)) (eq-eqb n (0 + n) (omega arith))))
     (λ m differ. ap (λ (b : Bool). cond b zero_id (id_at blocks m)) (among m ∙ or_false (is_among m (take k touched)) (n == m) (ne_eqb n m (λ e. differ (omega (arith, e))))))
 
 zeroed : (blocks : List Id16) (kept count : ℕ) (ids : List Id16) → kept ≡ min (length blocks) count → ids ≡ take kept blocks ++ replicate (count - kept) zero_id
@@ -119,5 +102,5 @@ ids_more blocks touched ids i count rises more within =
     let n : ℕ = get_or touched (length ids) 0 in
     let now : (m : ℕ) → put_id (ids ++ i ∷ []) touched m ≡ cond (n == m) (Some i) (put_id ids touched m) = λ m. at_push i ids touched m rises more in
     set_range (block_id blocks touched ids) (block_id blocks touched (ids ++ i ∷ [])) 0 count n i within
-    (ap (λ (o : Option Id16). unwrap_or o (kept_id blocks touched (0 + n))) (now (0 + n)) ∙ ap (λ (b : Bool). unwrap_or (cond b (Some i) (put_id ids touched (0 + n))) (kept_id blocks touched (0 + n))) (same_eqb n (0 + n) (omega arith)))
+    (ap (λ (o : Option Id16). unwrap_or o (kept_id blocks touched (0 + n))) (now (0 + n)) ∙ ap (λ (b : Bool). unwrap_or (cond b (Some i) (put_id ids touched (0 + n))) (kept_id blocks touched (0 + n))) (eq-eqb n (0 + n) (omega arith)))
     (λ m differ. ap (λ (o : Option Id16). unwrap_or o (kept_id blocks touched m)) (now m) ∙ ap (λ (b : Bool). unwrap_or (cond b (Some i) (put_id ids touched m)) (kept_id blocks touched m)) (ne_eqb n m (λ e. differ (omega (arith, e)))))

@@ -1,8 +1,8 @@
 -- Which blocks a view has, and which of them are touched.
-use Rattle.std.proofs.Common.{◌≡◌, ◌∙◌, ◌⊎◌, inl, inr, ℕ, zero, suc, ◌+◌, ◌-◌, ◌*◌, ◌/◌, ◌<◌, ◌≤◌, Bool, true, false, ◌==◌, ◌||◌, cond, List, [], ◌∷◌, length, get_or, refl, sym, ap, subst, arith}
+use Rattle.std.proofs.Common.{◌≡◌, ◌∙◌, ◌⊎◌, inl, inr, ℕ, zero, suc, ◌+◌, ◌-◌, ◌*◌, ◌<◌, ◌≤◌, Bool, true, false, ◌||◌, cond, List, [], ◌∷◌, length, get_or, refl, sym, ap, subst, arith}
 use Rattle.std.specs.Int.{div_ceil}
 use Rattle.std.specs.List.{AllByRecursion, filter, range_with_len}
-use Rattle.std.proofs.lemmas.Bool.{cases_lt, eqb-true, ne_eqb}
+use Rattle.std.proofs.lemmas.Bool.{cases_lt, eq-eqb, ne_eqb}
 use Rattle.std.proofs.lemmas.Grind.{div_ceil_times}
 use Rattle.std.proofs.Math.Nat.{lt-div-mul-add, div-mul-le_self, mul_assoc, suc-mul, mul-le-mul_right}
 use Rattle.bcv_base.specs.declared.seen.TxnBase.{TxnBase}
@@ -124,10 +124,7 @@ among_filter test a (suc n) m low high = by_place (cases_lt a m) (λ later. amon
     missing (k ∷ ks) all = ap (λ (b : Bool). b || is_among m ks) (ne_eqb k m (λ e. omega (arith, e, all.0))) ∙ missing ks all.1
 
     first : (b : Bool) → a ≡ m → AllByRecursion (λ k. m < k) (filter test (range_with_len (a + 1) n)) → is_among m (cond b (a ∷ filter test (range_with_len (a + 1) n)) (filter test (range_with_len (a + 1) n))) ≡ b
-    first true same above = ap (λ (b : Bool). b || is_among m (filter test (range_with_len (a + 1) n))) (same_eqb a m same)
-      where
-        same_eqb : (a m : ℕ) → a ≡ m → (a == m) ≡ true
-        same_eqb a m same = grind (arith, same)
+    first true same above = ap (λ (b : Bool). b || is_among m (filter test (range_with_len (a + 1) n))) (eq-eqb a m same)
     first false same above = missing (filter test (range_with_len (a + 1) n)) above
 
     by_place : (a < m) ⊎ (m ≤ a) → (a < m → is_among m (filter test (range_with_len (a + 1) n)) ≡ test m) → is_among m (filter test (range_with_len a (suc n))) ≡ test m

@@ -1,5 +1,5 @@
 -- The bytes of a block, page by page, and whether it holds a page of the base.
-use Rattle.std.proofs.Common.{◌≡◌, ◌∙◌, ℕ, zero, suc, ◌+◌, ◌-◌, ◌*◌, ◌/◌, ◌<◌, ◌≤◌, Bool, true, false, ◌||◌, min, List, [], ◌∷◌, ◌++◌, length, take, drop, replicate, refl, sym, ap, subst, arith}
+use Rattle.std.proofs.Common.{◌≡◌, ◌∙◌, ℕ, suc, ◌+◌, ◌-◌, ◌*◌, ◌<◌, ◌≤◌, Bool, true, false, ◌||◌, min, List, ◌++◌, length, take, replicate, sym, ap, arith}
 use Rattle.std.proofs.lemmas.List.{take_all}
 use Rattle.std.proofs.Math.Nat.{mul-le-mul_right}
 use Rattle.std.specs.List.{flat_map, list_any, range_with_len}
@@ -31,14 +31,6 @@ base_there base view n before count place before_is count_is within is =
     ap (λ (b : ℕ). list_any (is_base base.entry.pages view) (range_with_len (b + 1) (min (per_block base) (view_size base.entry.pages view - n * per_block base)))) (sym before_is)
     ∙ ap (λ (c : ℕ). list_any (is_base base.entry.pages view) (range_with_len (before + 1) c)) (sym count_is)
     ∙ any_there (is_base base.entry.pages view) (before + 1) count place within (ap (is_base base.entry.pages view) (page_number before place) ∙ is)
-
-pub base_none : (base : TxnBase) (view : List Writes) (n before count place : ℕ) → before ≡ n * per_block base
-    → count ≡ min (per_block base) (view_size base.entry.pages view - n * per_block base) → place ≡ count
-    → list_any (is_base base.entry.pages view) (range_with_len (before + 1) place) ≡ false → has_base base view n ≡ false
-base_none base view n before count place before_is count_is all none =
-    ap (λ (b : ℕ). list_any (is_base base.entry.pages view) (range_with_len (b + 1) (min (per_block base) (view_size base.entry.pages view - n * per_block base)))) (sym before_is)
-    ∙ ap (λ (c : ℕ). list_any (is_base base.entry.pages view) (range_with_len (before + 1) c)) (sym (all ∙ count_is))
-    ∙ none
 
 -- ---- the bytes
 

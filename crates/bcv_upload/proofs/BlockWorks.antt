@@ -1,7 +1,6 @@
 -- What a step of work says that puts a block.
-use Rattle.std.proofs.Common.{◌≡◌, ◌∙◌, ◌⊎◌, inl, inr, ℕ, zero, suc, ◌+◌, ◌-◌, ◌*◌, ◌<◌, ◌≤◌, Bool, true, false, ◌&&◌, ◌==◌, cond, List, [], ◌∷◌, ◌++◌, length, find, get_or, append-nil, Option, Some, None, IfSome, is_none, is_some, unwrap_or, option_map, slice_get, min, refl, sym, ap, subst, arith}
+use Rattle.std.proofs.Common.{◌≡◌, ◌∙◌, ℕ, ◌+◌, ◌-◌, ◌*◌, ◌<◌, Bool, true, false, ◌&&◌, cond, List, [], ◌∷◌, ◌++◌, length, find, get_or, append-nil, Option, Some, None, IfSome, is_none, unwrap_or, option_map, slice_get, min, refl, sym, ap, subst, arith}
 use Rattle.std.specs.Option.{option_map_or}
-use Rattle.std.specs.List.{flat_map, list_any, range_with_len}
 use Rattle.std.proofs.lemmas.Option.{slice_get-get_or}
 use Rattle.bcv_base.specs.declared.id.Id16.{Id16}
 use Rattle.bcv_base.specs.declared.log.Entry.{Entry}
@@ -13,7 +12,7 @@ use Rattle.bcv_base.specs.declared.seen.Latest.{Latest}
 use Rattle.bcv_base.specs.declared.seen.Seen.{Seen}
 use Rattle.bcv_base.specs.declared.seen.TxnBase.{TxnBase}
 use Rattle.bcv_base.specs.Drawn.{NamesShown}
-use Rattle.bcv_base.specs.History.{Item, BlockPut, HasBlock, history_of, history_after, first_put}
+use Rattle.bcv_base.specs.History.{Item, BlockPut, history_of, first_put}
 use Rattle.bcv_base.specs.HistoryLaws.{has_id-first, history_of-more, history_after-append, id_eq-self}
 use Rattle.bcv_base.specs.Ids.{has_id, id_eq}
 use Rattle.bcv_base.specs.Image.{Writes, is_base, or_else, zeros}
@@ -35,13 +34,13 @@ use Rattle.bcv_publish.specs.declared.work.BlockEnd.{BlockEnd}
 use Rattle.bcv_publish.specs.declared.work.BlockEnd.TheVariants as end
 use Rattle.bcv_publish.specs.declared.work.Work.{Work}
 use Rattle.bcv_publish.specs.declared.work.Work.TheVariants as work
-use Rattle.bcv_publish.specs.BlockPut.{AreFresh, BlockFails, BlockNamesCause, BlockPutLeaves, BlockPutSound, BlockPuts, BlockTakes, IsBlockAppended, SoundBlockEnds, block_work}
+use Rattle.bcv_publish.specs.BlockPut.{AreFresh, BlockFails, BlockNamesCause, BlockPutLeaves, BlockPuts, BlockTakes, IsBlockAppended, SoundBlockEnds, block_work}
 use Rattle.bcv_publish.proofs.BlockPutLaws.{none_puts}
 use Rattle.bcv_store.specs.StoreShown.{StoreTold, StoreShown}
 use Rattle.bcv_upload.specs.Inside.{PutsNext}
-use Rattle.bcv_upload.specs.BlockText.{has_base, page_at, pages_in, per_block, view_block, view_page}
-use Rattle.bcv_upload.specs.State.{State, IsBase, IsTask, base_id, next_block, old_id, with_block}
-use Rattle.bcv_upload.specs.UploadWork.{AreFirstPuts, AreOwnBlocks, BlockDraws, BlockLeaves, DrawsFor, OwnsBlocks, SoundWorkEnds, TaskWorks, WorkNamesCause, WorkSound, WorkTakes, WorkTold, asks_cache, asks_store, cached_bytes, first_text, is_fetch, next_text, old_bytes, old_text, text_of}
+use Rattle.bcv_upload.specs.BlockText.{has_base, per_block, view_block, view_page}
+use Rattle.bcv_upload.specs.State.{State, IsBase, IsTask, base_id, next_block, with_block}
+use Rattle.bcv_upload.specs.UploadWork.{AreFirstPuts, AreOwnBlocks, BlockDraws, BlockLeaves, DrawsFor, OwnsBlocks, SoundWorkEnds, TaskWorks, WorkNamesCause, WorkTakes, WorkTold, asks_store, cached_bytes, first_text, is_fetch, next_text, old_bytes, old_text, text_of}
 use Rattle.bcv_upload.proofs.NextTexts.{base_block}
 use Rattle.bcv_upload.proofs.Owned.{blocks_stay_others, blocks_stay_put, first_after, text_after}
 use Rattle.bcv_upload.proofs.Ranges.{none_there, same_text}

@@ -1,13 +1,12 @@
 -- Which ids the entry of a view lists.
-use Rattle.std.proofs.Common.{◌≡◌, ◌∙◌, ◌⊎◌, inl, inr, ℕ, zero, suc, ◌+◌, ◌<◌, ◌≤◌, Bool, true, false, not, ◌||◌, ◌==◌, cond, List, [], ◌∷◌, length, map, slice_get, Option, Some, None, unwrap_or, refl, sym, ap, subst, arith}
+use Rattle.std.proofs.Common.{◌≡◌, ◌∙◌, ℕ, zero, suc, ◌+◌, ◌<◌, ◌≤◌, Bool, true, false, not, ◌||◌, ◌==◌, cond, List, [], ◌∷◌, length, map, Option, Some, None, unwrap_or, refl, sym, ap, subst, arith}
 use Rattle.std.specs.List.{AllByRecursion, filter, range_with_len}
-use Rattle.std.proofs.lemmas.Bool.{eqb-true}
 use Rattle.bcv_base.specs.declared.id.Id16.{Id16}
-use Rattle.bcv_base.specs.declared.manifest.DbEntry.{DbEntry}
 use Rattle.bcv_base.specs.HistoryLaws.{id_eq-is, id_eq-self}
 use Rattle.bcv_base.specs.Ids.{IsId, has_id, id_eq}
 use Rattle.bcv_dbmap.specs.Checked.{zero_id}
 use Rattle.bcv_upload.specs.State.{block_id, id_at, ids_with, is_among, kept_id, put_id}
+use Rattle.bcv_dbmap.proofs.Bools.{or_right}
 
 -- ---- a list that is made by a function
 
@@ -35,10 +34,6 @@ has_both : (test : Id16 → Bool) (f g : ℕ → Id16) (a n : ℕ) (i : Id16) �
 has_both test f g a zero i same has = absurd (cc)
 has_both test f g a (suc n) i same has = by_test (test (f a)) refl has (has_both test f g (a + 1) n i same)
   where
-    or_right : (a b : Bool) → b ≡ true → (a || b) ≡ true
-    or_right true b h = refl
-    or_right false b h = h
-
     or_both : (b c d : Bool) → (c ≡ true → d ≡ true) → (b || c) ≡ true → (b || d) ≡ true
     or_both true c d f h = refl
     or_both false c d f h = f h

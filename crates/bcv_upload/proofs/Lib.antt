@@ -2,6 +2,7 @@ pub mod BlockIds
 pub mod BlockNumbers
 pub mod BlockTexts
 pub mod BlockWorks
+pub mod Bools
 pub mod EntryIds
 pub mod ImagePages
 pub mod MayPut

@@ -1,7 +1,7 @@
 -- An upload that is ready may publish: its new blocks are its own, every other one is the base's, and it sweeps nothing.
-use Rattle.std.proofs.Common.{◌≡◌, ◌∙◌, ◌⊎◌, inl, inr, ℕ, zero, suc, ◌+◌, ◌*◌, ◌<◌, ◌≤◌, Bool, true, false, not, ◌||◌, ◌==◌, cond, List, [], ◌∷◌, ◌++◌, length, slice_get, Option, Some, None, MatchOption, unwrap_or, nat_le, refl, sym, ap, subst, arith}
+use Rattle.std.proofs.Common.{◌≡◌, ◌∙◌, ◌⊎◌, inl, inr, ℕ, ◌+◌, ◌*◌, ◌<◌, ◌≤◌, Bool, true, false, not, ◌==◌, cond, List, [], ◌∷◌, length, slice_get, Option, Some, None, MatchOption, unwrap_or, nat_le, refl, sym, ap, subst, arith}
 use Rattle.std.specs.Cmp.{first_so}
-use Rattle.std.specs.List.{list_all, list_any, range_with_len}
+use Rattle.std.specs.List.{list_all}
 use Rattle.std.specs.Str.{bytes_eq}
 use Rattle.std.proofs.lemmas.Bool.{eqb-true, leb-true}
 use Rattle.std.proofs.lemmas.Option.{slice_get-get_or}
@@ -17,14 +17,13 @@ use Rattle.bcv_base.specs.Ids.{has_id, id_eq}
 use Rattle.bcv_base.specs.Image.{Writes, is_base, leaves_page}
 use Rattle.bcv_base.specs.Keyed.{keyed}
 use Rattle.bcv_base.specs.ManifestRules.{db_name, lists}
-use Rattle.bcv_base.specs.Views.{block_pages, has_local, view_size}
+use Rattle.bcv_base.specs.Views.{has_local, view_size}
 use Rattle.bcv_dbmap.specs.declared.fault.EditFault.{EditFault}
 use Rattle.bcv_dbmap.specs.declared.fault.EditFault.TheVariants as fault
 use Rattle.bcv_dbmap.specs.declared.plan.EditPlan.{EditPlan}
 use Rattle.bcv_dbmap.specs.Applied.{dbs_after, swept_ids}
 use Rattle.bcv_dbmap.specs.Checked.{checked, upload_fault, zero_id}
 use Rattle.bcv_dbmap.specs.Honest.{GrewHonestly}
-use Rattle.bcv_dbmap.specs.Kept.{IsKept}
 use Rattle.bcv_dbmap.specs.Merged.{taken_off}
 use Rattle.bcv_dbmap.specs.Outlived.{IsPublished}
 use Rattle.bcv_dbmap.specs.OwnBlock.{IsOwnBlock}
@@ -43,7 +42,8 @@ use Rattle.bcv_upload.specs.BlockText.{per_block, view_block}
 use Rattle.bcv_upload.specs.State.{State, IsTask, IsBase, asked_plan, base_id, block_id, id_at, is_among, is_ready, kept_id, needed, plan_of, put_id}
 use Rattle.bcv_upload.specs.UploadPut.{MayPut}
 use Rattle.bcv_upload.specs.UploadWork.{AreOwnBlocks, WasListed, old_text}
-use Rattle.bcv_upload.proofs.BlockNumbers.{IsFull, full_of, inside_needed, needed_inside, touched_local}
+use Rattle.bcv_upload.proofs.Bools.{not_not}
+use Rattle.bcv_upload.proofs.BlockNumbers.{full_of, inside_needed, needed_inside, touched_local}
 use Rattle.bcv_upload.proofs.EntryIds.{all_put, made_of, none_put}
 use Rattle.bcv_upload.proofs.Owned.{has_at}
 use Rattle.bcv_upload.proofs.Ranges.{none_there}
@@ -100,10 +100,6 @@ untouched_base base view n is inside none =
     let base_page : is_base base.entry.pages view (n * per + 1 + 0) ≡ true = not_not (is_base base.entry.pages view (n * per + 1 + 0)) first in
     let below : n * per + 1 + 0 ≤ base.entry.pages = leb-true (n * per + 1 + 0) base.entry.pages (first_so (nat_le (n * per + 1 + 0) base.entry.pages) (list_all (leaves_page (n * per + 1 + 0)) view) base_page) in
     subst (λ (x : ℕ). n < x) (sym is.entry.blocks) (inside_needed base base.entry.pages n full (omega (arith, below)))
-  where
-    not_not : (b : Bool) → not b ≡ false → b ≡ true
-    not_not true h = refl
-    not_not false h = absurd (cc)
 
 -- ---- the blocks that were put
 

@@ -1,7 +1,7 @@
 -- The old bytes of a block: which block of the base they are, and what the cache has of it.
-use Rattle.std.proofs.Common.{◌≡◌, ◌∙◌, ℕ, zero, suc, ◌+◌, ◌*◌, ◌<◌, ◌≤◌, Bool, true, false, ◌&&◌, ◌||◌, cond, List, [], ◌∷◌, length, find, Option, Some, None, is_none, option_map, unwrap_or, nat_eq, nat_le, Result, Ok, Err, IfOk, get_or, refl, sym, ap, subst, arith}
+use Rattle.std.proofs.Common.{◌≡◌, ◌∙◌, ℕ, ◌+◌, ◌*◌, ◌<◌, ◌≤◌, Bool, true, false, ◌&&◌, cond, List, [], ◌∷◌, length, find, Option, Some, None, is_none, option_map, unwrap_or, nat_eq, nat_le, Result, Ok, Err, IfOk, get_or, refl, sym, ap, subst, arith}
 use Rattle.std.specs.Cmp.{first_so}
-use Rattle.std.specs.List.{list_all, list_any, range_with_len}
+use Rattle.std.specs.List.{list_all}
 use Rattle.std.specs.Option.{option_map_or}
 use Rattle.std.specs.Global.{Vec}
 use Rattle.std.specs.declared.alloc.AllocError.{AllocError}
@@ -10,7 +10,6 @@ use Rattle.std.proofs.lemmas.Option.{slice_get-get_or}
 use Rattle.bcv_base.specs.declared.id.Id16.{Id16}
 use Rattle.bcv_base.specs.declared.seen.TxnBase.{TxnBase}
 use Rattle.bcv_base.specs.Image.{Writes, is_base, leaves_page, or_else}
-use Rattle.bcv_base.specs.Views.{view_size, block_pages}
 use Rattle.bcv_cache.specs.Cache.{entry_in, found_first, has_id, has_slot, slot_of, without, IsCache}
 use Rattle.bcv_cache.specs.Entry.{Blocks}
 use Rattle.bcv_cache.specs.Entry as cache
@@ -18,7 +17,7 @@ use Rattle.bcv_dbmap.specs.Checked.{zero_id}
 use Rattle.bcv_upload.specs.Inside.{IsNext, made_text}
 use Rattle.bcv_upload.specs.declared.next_text.NextText.{NextText}
 use Rattle.bcv_upload.specs.BlockText.{has_base, per_block, view_block}
-use Rattle.bcv_upload.specs.State.{IsBase, base_id, id_at, needed}
+use Rattle.bcv_upload.specs.State.{IsBase, base_id, id_at}
 use Rattle.bcv_upload.specs.UploadWork.{asks_cache, asks_store, cache_asked, cached_bytes, text_of}
 use Rattle.bcv_upload.proofs.BlockNumbers.{full_of, inside_needed}
 use Rattle.bcv_upload.proofs.Ranges.{any_found}

@@ -1,30 +1,26 @@
 -- What an upload stands on and has put stays: under what others append, and under one more own block.
-use Rattle.std.proofs.Common.{◌≡◌, ◌∙◌, ◌⊎◌, inl, inr, ℕ, zero, suc, ◌+◌, ◌<◌, ◌≤◌, Bool, true, false, cond, List, [], ◌∷◌, ◌++◌, length, slice_get, get_or, Option, Some, None, IfSome, unwrap_or, refl, sym, ap, subst, arith}
+use Rattle.std.proofs.Common.{◌≡◌, ◌∙◌, inr, ℕ, zero, suc, true, List, [], ◌∷◌, ◌++◌, slice_get, Option, Some, None, IfSome, unwrap_or, refl, sym, ap, subst}
 use Rattle.std.specs.Option.{option_map_or}
 use Rattle.bcv_base.specs.declared.id.Id16.{Id16}
 use Rattle.bcv_base.specs.declared.log.Entry.{Entry}
 use Rattle.bcv_base.specs.declared.log.Entry.TheVariants as entry
-use Rattle.bcv_base.specs.declared.manifest.DbEntry.{DbEntry}
 use Rattle.bcv_base.specs.declared.manifest.Manifest.{Manifest}
 use Rattle.bcv_base.specs.declared.object.ObjName.TheVariants as object
 use Rattle.bcv_base.specs.declared.seen.TxnBase.{TxnBase}
 use Rattle.bcv_base.specs.History.{Item, BlockPut, Published, Always, HasBlock, history_of, history_after, item_of, first_put}
-use Rattle.bcv_base.specs.HistoryLaws.{first_put-stays, has_block-stays, has_id-first, has_id-later, history_after-append, history_of-more, id_eq-self}
-use Rattle.bcv_base.specs.Ids.{has_id, id_eq}
-use Rattle.bcv_base.specs.Image.{Writes, or_else}
+use Rattle.bcv_base.specs.HistoryLaws.{first_put-stays, has_block-stays, has_id-first, has_id-later, history_after-append}
+use Rattle.bcv_base.specs.Ids.{has_id}
+use Rattle.bcv_base.specs.Image.{Writes}
 use Rattle.bcv_base.specs.ManifestRules.{lists}
 use Rattle.bcv_base.specs.Versions.{Reads}
-use Rattle.bcv_dbmap.specs.Growth.{AreLawful}
 use Rattle.bcv_dbmap.specs.Outlived.{IsPublished}
 use Rattle.bcv_dbmap.specs.OwnBlock.{IsOwnBlock}
-use Rattle.bcv_dbmap.specs.Past.{IsAmong, was_listed, was_dead}
 use Rattle.bcv_dbmap.specs.Sound.{Sound}
 use Rattle.bcv_dbmap.proofs.BlockLaws.{own_block_stays}
 use Rattle.bcv_dbmap.proofs.Entries.{lists_among}
 use Rattle.bcv_dbmap.proofs.ManifestLaws.{by_published}
-use Rattle.bcv_dbmap.proofs.OthersLaws.{others_leave_mine}
 use Rattle.bcv_upload.specs.BlockText.{view_block}
-use Rattle.bcv_upload.specs.State.{State, base_id, old_id}
+use Rattle.bcv_upload.specs.State.{State, old_id}
 use Rattle.bcv_upload.specs.UploadPut.{BlocksStay, BlocksStayAfterPut}
 use Rattle.bcv_upload.specs.UploadWork.{AreOwnBlocks, OwnsBlocks, WasListed, first_text, old_text}
 

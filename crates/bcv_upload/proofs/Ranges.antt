@@ -1,14 +1,8 @@
 -- Numbers one after the other: a test and the texts of one more.
-use Rattle.std.proofs.Common.{◌≡◌, ◌∙◌, ℕ, zero, suc, ◌+◌, ◌<◌, ◌≤◌, Bool, true, false, ◌||◌, List, [], ◌∷◌, ◌++◌, length, refl, sym, ap, arith, append_assoc}
+use Rattle.std.proofs.Common.{◌≡◌, ◌∙◌, ℕ, zero, suc, ◌+◌, ◌<◌, Bool, true, false, ◌||◌, List, [], ◌∷◌, ◌++◌, refl, sym, ap, arith, append_assoc}
 use Rattle.std.specs.List.{flat_map, list_any, range_with_len}
-
-or_none : (b : Bool) → (b || false) ≡ b
-or_none true = refl
-or_none false = refl
-
-or_or : (a b c : Bool) → (a || (b || c)) ≡ ((a || b) || c)
-or_or true b c = refl
-or_or false b c = refl
+use Rattle.bcv_dbmap.proofs.Bools.{or_right}
+use Rattle.bcv_upload.proofs.Bools.{or_none, or_or}
 
 none_more : (a : ℕ) → a + 0 ≡ a
 none_more a = omega arith
@@ -26,10 +20,6 @@ pub any_there : (test : ℕ → Bool) (a n k : ℕ) → k < n → test (a + k) �
 any_there test a zero k within is = absurd (omega (arith, within))
 any_there test a (suc n) zero within is = ap (λ (b : Bool). b || list_any test (range_with_len (a + 1) n)) (sym (ap test (none_more a)) ∙ is)
 any_there test a (suc n) (suc k) within is = or_right (test a) (list_any test (range_with_len (a + 1) n)) (any_there test (a + 1) n k (omega (arith, within)) (ap test (one_more a k) ∙ is))
-  where
-    or_right : (a b : Bool) → b ≡ true → (a || b) ≡ true
-    or_right true b h = refl
-    or_right false b h = h
 
 pub none_there : (test : ℕ → Bool) (a n k : ℕ) → k < n → list_any test (range_with_len a n) ≡ false → test (a + k) ≡ false
 none_there test a n k within none = by_test (test (a + k)) (any_there test a n k within) none

@@ -1,5 +1,5 @@
 -- What each step keeps of an upload.
-use Rattle.std.proofs.Common.{◌≡◌, ◌∙◌, ◌⊎◌, inl, inr, ℕ, suc, ◌+◌, ◌-◌, ◌*◌, ◌<◌, ◌≤◌, Bool, true, false, not, ◌&&◌, ◌||◌, ◌==◌, cond, List, [], ◌∷◌, ◌++◌, length, get_or, slice_get, slice_set, length-append, Option, Some, None, IfSome, MatchOption, is_some, is_none, option_copied, Bor, unwrap_or, nat_lt, refl, sym, ap, subst, arith}
+use Rattle.std.proofs.Common.{◌≡◌, ◌∙◌, inl, inr, ℕ, ◌+◌, ◌-◌, ◌*◌, ◌<◌, ◌≤◌, Bool, true, false, ◌&&◌, ◌||◌, ◌==◌, cond, List, [], ◌∷◌, ◌++◌, length, get_or, length-append, Option, Some, None, IfSome, MatchOption, is_some, is_none, option_copied, Bor, nat_lt, refl, sym, ap, subst, arith}
 use Rattle.std.specs.Cmp.{first_so, second_so}
 use Rattle.std.specs.List.{AllByRecursion}
 use Rattle.std.proofs.lemmas.Bool.{cases_lt, eqb-true, eqb-false}
@@ -38,6 +38,7 @@ use Rattle.bcv_upload.specs.BlockText.{IsViewOf, per_block}
 use Rattle.bcv_upload.specs.State.{State, IsFetched, IsRunning, IsTask, Passed, asked_plan, block_id, block_requests, entry_with, is_ready, left_of, manifest_requests, needed, next_block, plan_of, plan_with, view_in, with_block}
 use Rattle.bcv_upload.specs.UploadPut.{behind_put, is_published}
 use Rattle.bcv_upload.specs.UploadWork.{cache_asked, with_publish}
+use Rattle.bcv_upload.proofs.Bools.{not_not}
 use Rattle.bcv_upload.proofs.BlockIds.{ids_more}
 use Rattle.bcv_upload.proofs.EntryIds.{ids_are, stays}
 use Rattle.bcv_upload.proofs.BlockNumbers.{TouchedAre, all_at, full_of, needed_inside, touched_are}
@@ -147,10 +148,6 @@ seen_block p seen m block is like =
     let other : is_other seen.block m.block ≡ false = not_other (nat_lt m.number seen.number || is_past (publish.last_number p.refused) m.number) (is_other seen.block m.block) (is_other p.block m.block) like in
     let known : is_other (Some block) m.block ≡ false = sym (ap (λ (o : Option ℕ). is_other o m.block) is) ∙ other in
     sym (eqb-true block m.block (not_not (block == m.block) known))
-  where
-    not_not : (b : Bool) → not b ≡ false → b ≡ true
-    not_not true h = refl
-    not_not false h = absurd (cc)
 
 -- with another publication, under the same id
 task_publish : (s : State) (p : publish.State) (b : Bool) → IsTask s → p.id ≡ s.publish.id → (b ≡ false → IfSome p.latest (Passed (record s { publish = p; published = b }))) → IsTask (record s { publish = p; published = b })

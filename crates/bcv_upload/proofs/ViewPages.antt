@@ -1,7 +1,7 @@
 -- An upload that has put all its blocks publishes exactly the image of its view.
-use Rattle.std.proofs.Common.{◌≡◌, ◌∙◌, ◌⊎◌, inl, inr, ℕ, zero, suc, ◌+◌, ◌-◌, ◌*◌, ◌/◌, ◌%◌, ◌<◌, ◌≤◌, Bool, true, false, not, ◌==◌, cond, min, List, [], ◌∷◌, ◌++◌, length, take, drop, replicate, map, slice_get, Option, Some, None, unwrap_or, nat_le, refl, sym, ap, subst, arith, add_comm, append_assoc}
+use Rattle.std.proofs.Common.{◌≡◌, ◌∙◌, ◌⊎◌, inl, inr, ℕ, zero, suc, ◌+◌, ◌-◌, ◌*◌, ◌/◌, ◌%◌, ◌<◌, ◌≤◌, Bool, true, false, not, cond, min, List, [], ◌++◌, length, take, drop, replicate, slice_get, Option, Some, unwrap_or, nat_le, refl, sym, ap, subst, arith, add_comm, append_assoc}
 use Rattle.std.specs.Cmp.{first_so}
-use Rattle.std.specs.List.{flat_map, list_all, list_any, range_with_len}
+use Rattle.std.specs.List.{flat_map, list_all, range_with_len}
 use Rattle.std.specs.Option.{option_map_or}
 use Rattle.std.proofs.lemmas.Bool.{leb-true}
 use Rattle.std.proofs.lemmas.List.{length-drop, length-replicate, length-take-le}
@@ -10,26 +10,24 @@ use Rattle.std.proofs.lemmas.Option.{slice_get-get_or}
 use Rattle.std.proofs.Math.Nat.{div-add-mod, mod-lt, mul_comm, suc-mul}
 use Rattle.std.proofs.Math.Seq.{drop-append-add, take-append_seam}
 use Rattle.bcv_base.specs.declared.id.Id16.{Id16}
-use Rattle.bcv_base.specs.declared.log.Entry.{Entry}
-use Rattle.bcv_base.specs.declared.seen.Latest.{Latest}
 use Rattle.bcv_base.specs.declared.seen.TxnBase.{TxnBase}
 use Rattle.bcv_base.specs.Edits as edits
 use Rattle.bcv_base.specs.History.{Item, HasBlock, history_of, first_put}
 use Rattle.bcv_base.specs.Ids.{has_id}
 use Rattle.bcv_base.specs.Image.{Page, Writes, is_base, leaves_page, page_of, view_image, zeros}
 use Rattle.bcv_base.specs.Joined.{image_of, joined}
-use Rattle.bcv_base.specs.Padded.{padded}
 use Rattle.bcv_base.specs.Views.{Origin, FromBase, Added, Wrote, has_local, is_commit, is_from_base, origin, page_from, view_size}
 use Rattle.bcv_base.proofs.Views.{is_base-origin, length-view_image, origin-length, page_of-view_image}
 use Rattle.bcv_dbmap.specs.Checked.{zero_id}
 use Rattle.bcv_dbmap.specs.Sound.{Sound}
 use Rattle.bcv_upload.specs.BlockText.{IsViewOf, page_at, pages_in, per_block, view_block, view_page}
-use Rattle.bcv_upload.specs.State.{State, IsTask, base_id, block_id, ids_with, is_among, kept_id, needed, plan_of, put_id}
+use Rattle.bcv_upload.specs.State.{State, IsTask, base_id, block_id, ids_with, is_among, kept_id, needed, put_id}
 use Rattle.bcv_upload.specs.UploadPut.{UploadedIsTheView, view_over}
 use Rattle.bcv_upload.specs.UploadWork.{AreOwnBlocks, WasListed, first_text, old_text}
+use Rattle.bcv_upload.proofs.Bools.{not_not}
 use Rattle.bcv_upload.proofs.BlockNumbers.{IsFull, full_of, inside_needed, touched_local}
 use Rattle.bcv_upload.proofs.EntryIds.{made_of, none_put}
-use Rattle.bcv_upload.proofs.ImagePages.{length_pages, page_ends, page_next, page_read, part, same_pages}
+use Rattle.bcv_upload.proofs.ImagePages.{length_pages, page_ends, page_next, page_read, same_pages}
 use Rattle.bcv_upload.proofs.MayPut.{entry_id, own_put}
 use Rattle.bcv_upload.proofs.Owned.{base_put, has_at}
 use Rattle.bcv_upload.proofs.Ranges.{none_there}
@@ -170,10 +168,6 @@ module _ (past : List Item) (base : TxnBase) (view : List Writes) (sound : Sound
       in
       by_origin (origin base.entry.pages view (suc k)) (sym (is_base-origin base.entry.pages view (suc k)) ∙ not_not (is_base base.entry.pages view (suc k)) here)
     where
-      not_not : (b : Bool) → not b ≡ false → b ≡ true
-      not_not true h = refl
-      not_not false h = absurd (cc)
-
       by_origin : (o : Origin) → is_from_base o ≡ true
           → page_at size (old_text past base (k / per)) (k % per) ≡ page_from (page_at size (old_text past base (k / per)) (k % per)) (zeros size) o
       by_origin FromBase is = refl

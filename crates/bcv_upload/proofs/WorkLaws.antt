@@ -1,55 +1,42 @@
 -- What a step of work says, from what the manifest's get, the get of old bytes or the put of a block says.
-use Rattle.std.proofs.Common.{◌≡◌, ◌∙◌, ◌⊎◌, inl, inr, ℕ, suc, ◌+◌, ◌-◌, ◌<◌, ◌≤◌, Bool, true, false, ◌&&◌, ◌==◌, cond, List, [], ◌∷◌, ◌++◌, length, find, append-nil, Option, Some, None, IfSome, is_none, is_some, unwrap_or, option_map, slice_get, refl, sym, ap, subst, arith}
+use Rattle.std.proofs.Common.{◌≡◌, ◌∙◌, ◌⊎◌, inl, inr, ℕ, Bool, true, false, ◌&&◌, List, [], ◌++◌, length, append-nil, Option, Some, None, is_none, unwrap_or, refl, sym, ap, subst, arith}
 use Rattle.std.specs.Cmp.{first_so}
-use Rattle.std.specs.Option.{option_map_or}
 use Rattle.std.proofs.lemmas.Option.{slice_get-get_or}
 use Rattle.bcv_base.specs.declared.id.Id16.{Id16}
 use Rattle.bcv_base.specs.declared.log.Entry.{Entry}
-use Rattle.bcv_base.specs.declared.log.Entry.TheVariants as entry
-use Rattle.bcv_base.specs.declared.manifest.Manifest.{Manifest}
 use Rattle.bcv_base.specs.declared.object.ObjName.TheVariants as object
 use Rattle.bcv_base.specs.declared.outcome.Outcome.{Outcome}
-use Rattle.bcv_base.specs.declared.outcome.Outcome.TheVariants as outcome
 use Rattle.bcv_base.specs.declared.seen.Latest.{Latest}
 use Rattle.bcv_base.specs.declared.seen.Seen.{Seen}
 use Rattle.bcv_base.specs.declared.seen.TxnBase.{TxnBase}
 use Rattle.bcv_base.specs.Drawn.{NamesShown, AddsNames}
-use Rattle.bcv_base.specs.History.{Item, BlockPut, Published, HasBlock, history_of, first_put}
-use Rattle.bcv_base.specs.HistoryLaws.{has_id-first, history_of-more, id_eq-self}
-use Rattle.bcv_base.specs.Ids.{has_id, id_eq}
-use Rattle.bcv_base.specs.Image.{Writes, or_else}
+use Rattle.bcv_base.specs.History.{Item, history_of, first_put}
+use Rattle.bcv_base.specs.Ids.{has_id}
+use Rattle.bcv_base.specs.Image.{Writes}
 use Rattle.bcv_base.specs.Log.{Object, object_of}
 use Rattle.bcv_cache.specs.Cache.{slot_of}
-use Rattle.bcv_cache.specs.Cache as caches
 use Rattle.bcv_cache.specs.Entry.{Blocks}
-use Rattle.bcv_cache.specs.Entry as cache
 use Rattle.bcv_dbmap.specs.declared.plan.EditPlan.{EditPlan}
 use Rattle.bcv_dbmap.specs.BlockLaws.{IsObjectOf}
 use Rattle.bcv_dbmap.specs.Checked.{zero_id}
 use Rattle.bcv_dbmap.specs.Honest.{GrewHonestly}
-use Rattle.bcv_dbmap.specs.OwnBlock.{IsOwnBlock}
-use Rattle.bcv_dbmap.specs.Past.{IsAmong, was_deleted, was_listed, was_dead}
-use Rattle.bcv_dbmap.specs.RequestGrowth.{RequestGrowth}
+use Rattle.bcv_dbmap.specs.Past.{was_deleted}
 use Rattle.bcv_dbmap.specs.Sound.{Sound}
-use Rattle.bcv_dbmap.proofs.BlockLaws.{block_is_first_put, unput_is_fresh}
+use Rattle.bcv_dbmap.proofs.BlockLaws.{block_is_first_put}
 use Rattle.bcv_dbmap.proofs.Gone.{gone_is_outlived}
-use Rattle.bcv_dbmap.proofs.OthersLaws.{others_keep_sound, others_leave_mine}
-use Rattle.bcv_publish.specs.declared.work.BlockEnd.{BlockEnd}
-use Rattle.bcv_publish.specs.declared.work.BlockEnd.TheVariants as end
 use Rattle.bcv_publish.specs.declared.work.Work.{Work}
 use Rattle.bcv_publish.specs.declared.work.Work.TheVariants as work
-use Rattle.bcv_publish.specs.BlockPut.{AreFresh, BlockFails, BlockNamesCause, BlockPutLeaves, BlockPutSound, BlockPuts, BlockTakes, IsBlockAppended, SoundBlockEnds, block_work}
 use Rattle.bcv_publish.specs.ManifestGet.{GetLeaves, ManifestGets}
 use Rattle.bcv_publish.specs.Request.{TakesOutcome}
 use Rattle.bcv_publish.specs.State as publish
 use Rattle.bcv_publish.proofs.Growth.{growth_of, later_of}
 use Rattle.bcv_store.specs.StoreShown.{StoreTold, StoreShown}
-use Rattle.bcv_upload.specs.Inside.{BlockGets, PutsNext}
-use Rattle.bcv_upload.specs.BlockText.{has_base, view_block}
-use Rattle.bcv_upload.specs.State.{State, IsBase, IsTask, asked_plan, base_id, next_block, old_id, with_block, with_fetched}
-use Rattle.bcv_upload.specs.UploadWork.{AreFirstPuts, AreOwnBlocks, BlockDraws, BlockLeaves, DrawsFor, FetchEnds, FetchLeaves, FetchTold, IsOutlivedBase, OwnsBlocks, SoundFetchEnds, SoundWorkEnds, TaskWorks, WasListed, WorkLeaves, WorkNamesCause, WorkSound, WorkTakes, WorkTold, cache_after, cache_asked, cached_bytes, first_text, is_fetch, next_text, old_bytes, old_text, text_of, with_publish}
+use Rattle.bcv_upload.specs.Inside.{BlockGets}
+use Rattle.bcv_upload.specs.BlockText.{has_base}
+use Rattle.bcv_upload.specs.State.{State, IsBase, IsTask, asked_plan, base_id, next_block, old_id}
+use Rattle.bcv_upload.specs.UploadWork.{BlockLeaves, DrawsFor, FetchEnds, FetchLeaves, FetchTold, IsOutlivedBase, OwnsBlocks, SoundFetchEnds, SoundWorkEnds, TaskWorks, WasListed, WorkLeaves, WorkNamesCause, WorkSound, WorkTakes, WorkTold, cache_after, cache_asked, is_fetch, next_text, with_publish}
 use Rattle.bcv_upload.proofs.NextTexts.{base_block}
-use Rattle.bcv_upload.proofs.Owned.{base_put, blocks_stay_others, blocks_stay_put, has_at}
+use Rattle.bcv_upload.proofs.Owned.{base_put, blocks_stay_others, has_at}
 
 -- ---- which step it is
 

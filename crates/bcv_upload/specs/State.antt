@@ -1,5 +1,5 @@
 -- What an upload keeps.
-use Rattle.std.specs.Prelude.{◌≡◌, ◌≤◌, ◌<◌, ℕ, ◌+◌, ◌-◌, ◌*◌, ◌^◌, ◌==◌, ◌&&◌, Bool, true, false, List, [], ◌∷◌, ◌++◌, length, map, Option, Some, None, is_some, unwrap_or, slice_get, slice_set, IfSome, if◌then◌else◌}
+use Rattle.std.specs.Prelude.{◌≡◌, ◌≤◌, ◌<◌, ℕ, ◌+◌, ◌-◌, ◌*◌, ◌^◌, ◌==◌, ◌&&◌, Bool, true, false, List, [], ◌∷◌, ◌++◌, length, map, Option, Some, None, is_some, unwrap_or, slice_get, IfSome, if◌then◌else◌}
 use Rattle.std.specs.List.{AllByRecursion, list_any, range_with_len}
 use Rattle.bcv_base.specs.declared.id.Id16.{Id16}
 use Rattle.bcv_base.specs.declared.manifest.DbEntry.{DbEntry}
@@ -9,14 +9,14 @@ use Rattle.bcv_base.specs.Ids.{IsId}
 use Rattle.bcv_base.specs.Image.{Writes}
 use Rattle.bcv_base.specs.ManifestRules.{MeetsRules, MeetsLimits, MeetsEntryRules, is_block_size, blocks_needed}
 use Rattle.bcv_base.specs.SizeLimits.{most_blocks}
-use Rattle.bcv_base.specs.Views.{view_size, touched_blocks}
+use Rattle.bcv_base.specs.Views.{view_size}
 use Rattle.bcv_dbmap.specs.declared.plan.EditPlan.{EditPlan}
 use Rattle.bcv_dbmap.specs.declared.plan.EditPlan.TheVariants as edit
 use Rattle.bcv_dbmap.specs.Checked.{checked, zero_id}
 use Rattle.bcv_pages.specs.Held.{Held, CanView, view_of}
 use Rattle.bcv_publish.specs.State.{new_publish}
 use Rattle.bcv_publish.specs.State as publish
-use Rattle.bcv_upload.specs.BlockText.{IsViewOf, per_block}
+use Rattle.bcv_upload.specs.BlockText.{IsViewOf}
 
 -- an upload: the base of its view; the view's size, in pages; the blocks that hold a local page, ascending; the ids
 -- under which the first of them were put; the old bytes of the next one, where a get brought them; its publication; and

@@ -1,9 +1,7 @@
 -- A step of an upload before the manifest's put: the manifest's get, the get of a block's old bytes, or the put of a
 -- block.
-use Rattle.std.specs.Prelude.{◌≡◌, ◌≢◌, ◌≤◌, ℕ, Bool, true, false, ◌&&◌, List, [], ◌∷◌, ◌++◌, length, find, Result, Ok, Err, Option, Some, None, is_none, option_map, unwrap_or, slice_get, IfSome, if◌then◌else◌}
-use Rattle.std.specs.Global.{Vec}
+use Rattle.std.specs.Prelude.{◌≡◌, ◌≢◌, ◌≤◌, ℕ, Bool, true, false, ◌&&◌, List, [], ◌∷◌, ◌++◌, length, find, Option, Some, None, is_none, option_map, unwrap_or, slice_get, IfSome, if◌then◌else◌}
 use Rattle.std.specs.Option.{option_map_or}
-use Rattle.std.specs.declared.alloc.AllocError.{AllocError}
 use Rattle.bcv_base.specs.declared.id.Id16.{Id16}
 use Rattle.bcv_base.specs.declared.log.Entry.{Entry}
 use Rattle.bcv_base.specs.declared.manifest.Manifest.{Manifest}
@@ -28,16 +26,12 @@ use Rattle.bcv_dbmap.specs.RequestGrowth.{RequestGrowth}
 use Rattle.bcv_publish.specs.declared.work.BlockEnd.{BlockEnd}
 use Rattle.bcv_publish.specs.declared.work.Work.{Work}
 use Rattle.bcv_publish.specs.declared.work.Work.TheVariants as work
-use Rattle.bcv_publish.specs.BlockPut.{AreFresh, BlockPutTold, BlockPuts, SoundBlockEnds, block_work}
+use Rattle.bcv_publish.specs.BlockPut.{AreFresh, BlockPutTold, SoundBlockEnds, block_work}
 use Rattle.bcv_publish.specs.ManifestGet.{GetLeaves, SoundGetEnds, ManifestGetTold}
 use Rattle.bcv_publish.specs.Request.{OverSoundLog, TakesOutcome, MayTakeOutcome}
 use Rattle.bcv_publish.specs.State as publish
-use Rattle.bcv_store.specs.declared.store.Got.{Got}
-use Rattle.bcv_store.specs.declared.store.Got.TheVariants as got
 use Rattle.bcv_store.specs.Plans.{next_of, AreOthers}
 use Rattle.bcv_store.specs.StoreShown.{StoreTold, StoreShown}
-use Rattle.bcv_upload.specs.declared.next_text.NextText.{NextText}
-use Rattle.bcv_upload.specs.declared.next_text.NextText.TheVariants as next
 use Rattle.bcv_upload.specs.BlockText.{has_base, view_block}
 use Rattle.bcv_upload.specs.State.{State, asked_plan, base_id, next_block, old_id, with_block, with_fetched}
 

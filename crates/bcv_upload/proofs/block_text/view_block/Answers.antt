@@ -1,4 +1,4 @@
-use Rattle.std.proofs.Common.{◌≡◌, ◌≤◌, ◌<◌, ◌∙◌, ◌*◌, ◌-◌, ◌+◌, sym, ap, arith}
+use Rattle.std.proofs.Common.{◌∙◌, ◌*◌, ◌-◌, sym, arith}
 use Rattle.bcv_base.specs.Views.{view_size}
 use Rattle.bcv_upload.specs.BlockText.{per_block, view_page}
 use Rattle.bcv_upload.specs.State.{view_in}

@@ -1,10 +1,9 @@
-use Rattle.std.proofs.Common.{◌≡◌, ◌∙◌, ◌<◌, ℕ, List, true, length, Option, Some, None, option_map, sym, ap, subst, arith}
+use Rattle.std.proofs.Common.{◌≡◌, ◌∙◌, ◌<◌, ℕ, List, true, length, Option, option_map, sym, ap, subst}
 use Rattle.std.specs.Global.{Vec}
 use Rattle.bcv_base.specs.declared.id.Id16.{Id16}
 use Rattle.bcv_cache.specs.Cache.{found_first, slot_of}
 use Rattle.bcv_upload.specs.Inside.{IsNext}
-use Rattle.bcv_upload.specs.BlockText.{has_base}
-use Rattle.bcv_upload.specs.State.{base_id, view_in}
+use Rattle.bcv_upload.specs.State.{view_in}
 use Rattle.bcv_upload.specs.UploadWork.{asks_store, cache_asked, cached_bytes}
 use Rattle.bcv_upload.proofs.NextTexts.{base_block, cache_is, cached, id_read, is_fetched, made_next}
 use Rattle.bcv_upload.proofs.next_text.next_text.Goals as goal

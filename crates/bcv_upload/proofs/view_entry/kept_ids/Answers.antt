@@ -1,4 +1,4 @@
-use Rattle.std.proofs.Common.{◌≡◌, ◌<◌, ◌∙◌, ◌++◌, [], length, take, get_or, slice_set, arith, ap}
+use Rattle.std.proofs.Common.{◌<◌, ◌∙◌, ◌++◌, [], length, take, get_or, slice_set, arith, ap}
 use Rattle.std.proofs.lemmas.List.FromFn.{length-map-range_with_len}
 use Rattle.bcv_dbmap.specs.Checked.{zero_id}
 use Rattle.bcv_upload.specs.State.{block_id}

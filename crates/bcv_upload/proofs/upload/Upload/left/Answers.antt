@@ -1,6 +1,4 @@
-use Rattle.std.proofs.Common.{◌≡◌, ◌≤◌, length, arith}
-use Rattle.bcv_upload.specs.declared.upload.Upload.TheInside.{Inside}
-use Rattle.bcv_upload.specs.State.{IsTask}
+use Rattle.std.proofs.Common.{arith}
 use Rattle.bcv_upload.proofs.BlockNumbers.{touched_few}
 use Rattle.bcv_upload.proofs.upload.Upload.left.Goals as goal
 

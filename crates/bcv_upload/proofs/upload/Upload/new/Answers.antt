@@ -1,4 +1,4 @@
-use Rattle.std.proofs.Common.{◌≡◌, ◌<◌, ℕ, List, sym, subst}
+use Rattle.std.proofs.Common.{◌<◌, ℕ, List, sym, subst}
 use Rattle.std.specs.List.{AllByRecursion}
 use Rattle.bcv_upload.specs.State.{needed, view_in}
 use Rattle.bcv_upload.proofs.BlockNumbers.{full_of, touched_are}

@@ -1,7 +1,7 @@
 use Rattle.std.proofs.Common.{◌≡◌, Some, sym, subst}
 use Rattle.std.specs.Option.{option_map}
 use Rattle.bcv_upload.specs.declared.upload.Upload.TheInside.{Inside}
-use Rattle.bcv_upload.specs.State.{State, asked_plan}
+use Rattle.bcv_upload.specs.State.{State}
 use Rattle.bcv_upload.proofs.Tasks.{upload_read}
 use Rattle.bcv_upload.proofs.upload.Upload.read.Goals as goal
 
