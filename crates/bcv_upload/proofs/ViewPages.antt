@@ -6,6 +6,7 @@ use Rattle.std.specs.Option.{option_map_or}
 use Rattle.std.proofs.lemmas.Bool.{leb-true}
 use Rattle.std.proofs.lemmas.List.{length-drop, length-replicate, length-take-le}
 use Rattle.std.proofs.lemmas.List.FromFn.{get_or-map-range_with_len, length-map-range_with_len}
+use Rattle.std.proofs.lemmas.Nat.{div-mul-add, mod-mul-add}
 use Rattle.std.proofs.lemmas.Option.{slice_get-get_or}
 use Rattle.std.proofs.Math.Nat.{div-add-mod, mod-lt, mul_comm, suc-mul}
 use Rattle.std.proofs.Math.Seq.{drop-append-add, take-append_seam}
@@ -16,13 +17,14 @@ use Rattle.bcv_base.specs.History.{Item, HasBlock, history_of, first_put}
 use Rattle.bcv_base.specs.Ids.{has_id}
 use Rattle.bcv_base.specs.Image.{Page, Writes, is_base, leaves_page, page_of, view_image, zeros}
 use Rattle.bcv_base.specs.Joined.{image_of, joined}
-use Rattle.bcv_base.specs.Views.{Origin, FromBase, Added, Wrote, has_local, is_commit, is_from_base, origin, page_from, view_size}
+use Rattle.bcv_base.specs.Padded.{padded}
+use Rattle.bcv_base.specs.Views.{Added, FromBase, Origin, Wrote, block_pages, has_local, is_commit, is_from_base, origin, page_from, view_size}
 use Rattle.bcv_base.proofs.Views.{is_base-origin, length-view_image, origin-length, page_of-view_image}
 use Rattle.bcv_dbmap.specs.Checked.{zero_id}
 use Rattle.bcv_dbmap.specs.Sound.{Sound}
-use Rattle.bcv_upload.specs.BlockText.{IsViewOf, page_at, pages_in, per_block, view_block, view_page}
+use Rattle.bcv_upload.specs.BlockText.{IsViewOf, page_at, page_over, pages_in, per_block, view_block, view_page}
 use Rattle.bcv_upload.specs.State.{State, IsTask, base_id, block_id, ids_with, is_among, kept_id, needed, put_id}
-use Rattle.bcv_upload.specs.UploadPut.{UploadedIsTheView, view_over}
+use Rattle.bcv_upload.specs.UploadPut.{BlocksHoldTheView, UploadedIsTheView, view_over}
 use Rattle.bcv_upload.specs.UploadWork.{AreOwnBlocks, WasListed, first_text, old_text}
 use Rattle.bcv_upload.proofs.Bools.{not_not}
 use Rattle.bcv_upload.proofs.BlockNumbers.{IsFull, full_of, inside_needed, touched_local}
@@ -30,7 +32,7 @@ use Rattle.bcv_upload.proofs.EntryIds.{made_of, none_put}
 use Rattle.bcv_upload.proofs.ImagePages.{length_pages, page_ends, page_next, page_read, same_pages}
 use Rattle.bcv_upload.proofs.MayPut.{entry_id, own_put}
 use Rattle.bcv_upload.proofs.Owned.{base_put, has_at}
-use Rattle.bcv_upload.proofs.Ranges.{none_there}
+use Rattle.bcv_upload.proofs.Ranges.{none_there, same_text}
 use Rattle.bcv_upload.proofs.Tasks.{kept_of, ready_of}
 
 -- ---- the pages of a block
@@ -184,6 +186,35 @@ by_block past base view sound full listed well ids_of k within bytes (inl put) =
     ap (λ (x : List ℕ). page_at base.entry.page_size x (k % per_block base)) put ∙ put_page past base view sound full listed well ids_of k within
 by_block past base view sound full listed well ids_of k within bytes (inr stays) =
     ap (λ (x : List ℕ). page_at base.entry.page_size x (k % per_block base)) stays.0 ∙ kept_page past base view sound full listed well ids_of k within stays.1
+
+-- what is put for a block is that block of the view's image
+pub blocks_hold_the_view : BlocksHoldTheView
+blocks_hold_the_view past base view n sound is listed well inside =
+    let full = full_of base is in
+    let per : ℕ = per_block base in
+    let image : List Page = view_over past base view in
+    let old : List ℕ = old_text past base n in
+    let first : ℕ = n * per + 1 in
+    let count : ℕ = min per (view_size base.entry.pages view - n * per) in
+    let long : length image ≡ view_size base.entry.pages view =
+    length-view_image base.entry.page_size (image_of past base.entry.pages base.entry.page_size base.entry.blocks) view
+    ∙ ap (λ (k : ℕ). view_size k view) (length_pages base.entry.pages base.entry.page_size (joined past base.entry.blocks))
+    in
+    let shown : ℕ → Page = λ p. unwrap_or (page_of image p) [] in
+    ap (padded base.block) (same_text (view_page base view old n) shown first count (λ j within.
+    let below : j < per = omega (arith, within) in
+    let number : first + j ≡ suc (n * per + j) = omega arith in
+    let place : suc (n * per + j) - (n * per + 1) ≡ j = omega arith in
+    let read = viewed_page past base view sound full listed well is.entry.blocks (n * per + j) (omega (arith, within, inside)) in
+    let there : shown (suc (n * per + j)) ≡ page_over base view (old_text past base ((n * per + j) / per)) ((n * per + j) % per) (suc (n * per + j)) =
+    ap (λ (o : Option Page). unwrap_or o []) (page_next image (n * per + j) ∙ read)
+    in
+    ap (view_page base view old n) number
+    ∙ ap (λ (k : ℕ). page_over base view old k (suc (n * per + j))) place
+    ∙ sym (there ∙ ap (λ (q : ℕ). page_over base view (old_text past base q) ((n * per + j) % per) (suc (n * per + j))) (div-mul-add n per j below)
+    ∙ ap (λ (r : ℕ). page_over base view old r (suc (n * per + j))) (mod-mul-add n per j below))
+    ∙ sym (ap shown number)))
+    ∙ ap (λ (k : ℕ). padded base.block (flat_map shown (block_pages per k n))) (sym long)
 
 -- ---- the whole
 

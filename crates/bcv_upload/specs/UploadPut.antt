@@ -1,6 +1,6 @@
 -- The manifest's put of an upload, and what it publishes.
-use Rattle.std.specs.Prelude.{◌≡◌, ℕ, Bool, true, false, List, [], ◌∷◌, ◌++◌}
-use Rattle.std.specs.List.{list_all}
+use Rattle.std.specs.Prelude.{◌≡◌, ◌<◌, ◌*◌, ℕ, Bool, true, false, List, [], ◌∷◌, ◌++◌, length, unwrap_or}
+use Rattle.std.specs.List.{flat_map, list_all}
 use Rattle.bcv_base.specs.declared.id.Id16.{Id16}
 use Rattle.bcv_base.specs.declared.log.Entry.{Entry}
 use Rattle.bcv_base.specs.declared.log.Entry.TheVariants as entry
@@ -10,9 +10,10 @@ use Rattle.bcv_base.specs.declared.seen.TxnBase.{TxnBase}
 use Rattle.bcv_base.specs.Edits as edits
 use Rattle.bcv_base.specs.History.{Item, history_of}
 use Rattle.bcv_base.specs.Ids.{has_id}
-use Rattle.bcv_base.specs.Image.{Page, Writes, view_image}
+use Rattle.bcv_base.specs.Image.{Page, Writes, page_of, view_image}
 use Rattle.bcv_base.specs.Joined.{image_of}
-use Rattle.bcv_base.specs.Views.{is_commit}
+use Rattle.bcv_base.specs.Padded.{padded}
+use Rattle.bcv_base.specs.Views.{block_pages, is_commit, view_size}
 use Rattle.bcv_dbmap.specs.Applied.{edit_of}
 use Rattle.bcv_dbmap.specs.Growth.{AreLawful}
 use Rattle.bcv_dbmap.specs.Kept.{IsKept}
@@ -22,9 +23,9 @@ use Rattle.bcv_publish.specs.declared.work.PutEnd.{PutEnd}
 use Rattle.bcv_publish.specs.declared.work.PutEnd.TheVariants as put
 use Rattle.bcv_publish.specs.ManifestPut as publishing
 use Rattle.bcv_publish.specs.State as publish
-use Rattle.bcv_upload.specs.BlockText.{IsViewOf}
-use Rattle.bcv_upload.specs.State.{State, IsTask, is_ready, plan_of}
-use Rattle.bcv_upload.specs.UploadWork.{OwnsBlocks}
+use Rattle.bcv_upload.specs.BlockText.{IsViewOf, per_block, view_block}
+use Rattle.bcv_upload.specs.State.{State, IsBase, IsTask, is_ready, plan_of}
+use Rattle.bcv_upload.specs.UploadWork.{OwnsBlocks, WasListed, old_text}
 
 -- ---- a put
 
@@ -56,6 +57,18 @@ pub record MayPut (mine : List Id16) (log : List Entry) (view : List Writes) (s 
 abbrev pub view_over : List Item → TxnBase → List Writes → List Page
 view_over past base view =
     view_image base.entry.page_size (image_of past base.entry.pages base.entry.page_size base.entry.blocks) view
+
+-- the bytes of a block of an image: its pages, and zeros after the last one
+abbrev pub image_block : TxnBase → List Page → ℕ → List ℕ
+image_block base image n =
+    padded base.block (flat_map (λ p. unwrap_or (page_of image p) []) (block_pages (per_block base) (length image) n))
+
+-- what is put for a block is the block of the view's image, which the view's commits make of the base's image
+abbrev pub BlocksHoldTheView : Type 0
+BlocksHoldTheView =
+    (past : List Item) (base : TxnBase) (view : List Writes) (n : ℕ) → Sound past → IsBase base → WasListed past base
+    → list_all (is_commit base.entry.page_size) view ≡ true → n * per_block base < view_size base.entry.pages view
+    → view_block base view (old_text past base n) n ≡ image_block base (view_over past base view) n
 
 -- an upload that has put all its blocks publishes exactly the view
 abbrev pub UploadedIsTheView : Type 0

@@ -1,11 +1,16 @@
 //! Laws of uploads. Each function does nothing: its clause is the law, for proofs to cite.
 ghost use Rattle.bcv_upload.specs.UploadDescent.{LeftFalls, PutFalls, WorkFalls};
-ghost use Rattle.bcv_upload.specs.UploadPut.{BlocksStay, BlocksStayAfterPut, UploadedIsTheView};
+ghost use Rattle.bcv_upload.specs.UploadPut.{BlocksHoldTheView, BlocksStay, BlocksStayAfterPut, UploadedIsTheView};
 
 /// An upload that has put all its blocks publishes exactly the image of its view. A client says by it which edit of
 /// the machine a put is.
 pub fn uploaded_is_the_view()
     ensures { UploadedIsTheView }
+{}
+
+/// The bytes that are put for a block are the pages of the view's image there, and zeros past its size.
+pub fn blocks_hold_the_view()
+    ensures { BlocksHoldTheView }
 {}
 
 /// What an upload stands on and has put stays, while others append lawful entries and after one more own block.

@@ -21,5 +21,5 @@ mod upload_put;
 mod upload_work;
 mod view_entry;
 
-pub use laws::{blocks_stay, left_falls, steps_fall, uploaded_is_the_view};
+pub use laws::{blocks_hold_the_view, blocks_stay, left_falls, steps_fall, uploaded_is_the_view};
 pub use upload::Upload;
