@@ -108,6 +108,9 @@ last_read ids new i d is =
     at : (n m : ℕ) → m ≡ n + 1 → m - 1 ≡ n
     at n m is = omega (arith, is)
 
+pub last_at : (ids new : List Id16) (i last : Id16) (k n : ℕ) → last ≡ get_or new (k - 1) last → k ≡ n → n ≡ length new → new ≡ ids ++ i ∷ [] → last ≡ i
+last_at ids new i last k n read k_is n_is is = read ∙ ap (λ (x : ℕ). get_or new (x - 1) last) (k_is ∙ n_is) ∙ last_read ids new i last is
+
 -- a number that is read at a place
 pub number_read : (ns : List ℕ) (n k j : ℕ) → n ≡ get_or ns k n → k ≡ j → j < length ns → n ≡ get_or ns j 0
 number_read ns n k j read is within = read ∙ ap (λ (x : ℕ). get_or ns x n) is ∙ get_or_default_zero ns j n within

@@ -46,8 +46,8 @@ impl Model for Upload {
 }
 
 impl Upload {
-    /// An upload of a view by a writer that publishes under a drawn id. Nothing is asked of the store yet. `work` is
-    /// to be handed the same view.
+    /// An upload of a view by a writer that publishes under a drawn id. The view is what the base's commits in this set
+    /// make of the base; `work` is to be handed a set that holds the same view. Nothing is asked of the store yet.
     pub fn new(
         alloc: Global,
         base: &TxnBase,
