@@ -12,4 +12,5 @@ pub mod Powers
 pub mod Ranges
 pub mod Tasks
 pub mod ViewPages
+pub mod Viewed
 pub mod WorkLaws

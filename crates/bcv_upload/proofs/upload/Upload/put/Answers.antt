@@ -1,17 +1,13 @@
 use Rattle.std.proofs.Common.{◌≡◌, Bool, List, true, MatchOption, sym, subst}
-use Rattle.std.specs.Option.{option_map}
 use Rattle.bcv_base.specs.Image.{Writes}
 use Rattle.bcv_publish.specs.declared.work.PutEnd.TheVariants as put
 use Rattle.bcv_publish.specs.ManifestPut.{ManifestPutSound}
-use Rattle.bcv_upload.specs.declared.upload.Upload.TheInside.{Inside}
 use Rattle.bcv_upload.specs.State.{State, IsRunning, is_ready, plan_of}
 use Rattle.bcv_upload.specs.UploadPut.{MayPut}
 use Rattle.bcv_upload.proofs.MayPut.{any_sound}
 use Rattle.bcv_upload.proofs.Tasks.{any_put, any_ready, any_refused}
+use Rattle.bcv_upload.proofs.Viewed.{viewed}
 use Rattle.bcv_upload.proofs.upload.Upload.put.Goals as goal
-
-abbrev viewed : Inside → State
-viewed t = record { base = t.base; size = t.size; touched = t.touched.items; ids = t.ids.items; fetched = option_map (λ b. b.items) t.fetched; publish = t.publish; published = t.published }
 
 pub put-end-requires-clause-ready : goal.put-end-requires-clause-ready
 put-end-requires-clause-ready g c =

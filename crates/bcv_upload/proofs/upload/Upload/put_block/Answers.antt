@@ -1,12 +1,8 @@
 use Rattle.std.proofs.Common.{◌≡◌, ◌∙◌, ◌<◌, length, sym, subst}
-use Rattle.std.specs.Option.{option_map}
-use Rattle.bcv_upload.specs.declared.upload.Upload.TheInside.{Inside}
 use Rattle.bcv_upload.specs.State.{State, needed}
 use Rattle.bcv_upload.proofs.Tasks.{has_place, last_at, next_within, number_read, upload_block}
+use Rattle.bcv_upload.proofs.Viewed.{viewed}
 use Rattle.bcv_upload.proofs.upload.Upload.put_block.Goals as goal
-
-abbrev viewed : Inside → State
-viewed t = record { base = t.base; size = t.size; touched = t.touched.items; ids = t.ids.items; fetched = option_map (λ b. b.items) t.fetched; publish = t.publish; published = t.published }
 
 pub list_block-requires : goal.list_block-requires
 list_block-requires g c =

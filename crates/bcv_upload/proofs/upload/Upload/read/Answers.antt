@@ -1,12 +1,8 @@
 use Rattle.std.proofs.Common.{◌≡◌, Some, sym, subst}
-use Rattle.std.specs.Option.{option_map}
-use Rattle.bcv_upload.specs.declared.upload.Upload.TheInside.{Inside}
 use Rattle.bcv_upload.specs.State.{State}
 use Rattle.bcv_upload.proofs.Tasks.{upload_read}
+use Rattle.bcv_upload.proofs.Viewed.{viewed}
 use Rattle.bcv_upload.proofs.upload.Upload.read.Goals as goal
-
-abbrev viewed : Inside → State
-viewed t = record { base = t.base; size = t.size; touched = t.touched.items; ids = t.ids.items; fetched = option_map (λ b. b.items) t.fetched; publish = t.publish; published = t.published }
 
 pub invariant_of-self : goal.invariant_of-self
 invariant_of-self g c =

@@ -1,18 +1,15 @@
-use Rattle.std.proofs.Common.{◌≡◌, ◌∙◌, length, true, not, Option, Some, None, is_none, option_map, option_copied, Bor, refl, sym, ap, subst}
+use Rattle.std.proofs.Common.{◌≡◌, ◌∙◌, length, true, not, Option, Some, None, is_none, option_copied, Bor, refl, sym, ap, subst}
 use Rattle.bcv_base.specs.declared.id.Id16.{Id16}
 use Rattle.bcv_base.specs.declared.seen.Latest.{Latest}
 use Rattle.bcv_upload.specs.Inside.{BlockGets}
-use Rattle.bcv_upload.specs.declared.upload.Upload.TheInside.{Inside}
 use Rattle.bcv_upload.specs.declared.next_text.NextText.TheVariants as text
 use Rattle.bcv_upload.specs.BlockText.{IsViewOf}
 use Rattle.bcv_upload.specs.State.{State, view_in}
 use Rattle.bcv_upload.proofs.BlockWorks.{block_works, none_works}
 use Rattle.bcv_upload.proofs.Tasks.{cache_at, has_next, next_at, next_inside}
 use Rattle.bcv_upload.proofs.WorkLaws.{cache_is, fetch_leaves, fetch_works, made_leaves, read_works}
+use Rattle.bcv_upload.proofs.Viewed.{viewed}
 use Rattle.bcv_upload.proofs.upload.Upload.work.Goals as goal
-
-abbrev viewed : Inside → State
-viewed t = record { base = t.base; size = t.size; touched = t.touched.items; ids = t.ids.items; fetched = option_map (λ b. b.items) t.fetched; publish = t.publish; published = t.published }
 
 none_copied : (o : Option (Bor Latest)) → is_none o ≡ true → option_copied o ≡ None
 none_copied None h = refl
