@@ -1,0 +1,16 @@
+pub mod BlockIds
+pub mod BlockNumbers
+pub mod BlockTexts
+pub mod BlockWorks
+pub mod Bools
+pub mod EntryIds
+pub mod ImagePages
+pub mod MayPut
+pub mod NextTexts
+pub mod Owned
+pub mod Powers
+pub mod Ranges
+pub mod Tasks
+pub mod ViewPages
+pub mod Viewed
+pub mod WorkLaws

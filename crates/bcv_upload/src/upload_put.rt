@@ -1,0 +1,48 @@
+//! The manifest's put of an upload.
+ghost use Rattle.std.specs.Prelude.{◌≡◌, true, List, MatchOption};
+ghost use Rattle.bcv_publish.specs.ManifestPut.{ManifestPutSound, ManifestPuts};
+ghost use Rattle.bcv_publish.specs.Request.{OverSoundLog};
+ghost use Rattle.bcv_base.specs.declared.id.Id16.{Id16};
+ghost use Rattle.bcv_base.specs.Image.{Writes};
+ghost use Rattle.bcv_upload.specs.State.{IsRunning, is_ready, left_of, plan_of};
+ghost use Rattle.bcv_upload.specs.UploadPut.{MayPut, PutLeaves, is_published};
+
+use crate::upload::Upload;
+use bcv_publish::PutEnd;
+use bcv_store::Store;
+use std::alloc::Global;
+
+impl Upload {
+    /// Publishes the edit over the manifest that is kept, where it is still the one that was read. This is one
+    /// request to the store, or none where memory runs out before it. After `Refused` the manifest is read again, and
+    /// the blocks that were put are kept; after `Published` and `Contended` the upload has ended. `Unknown` leaves
+    /// the upload as it was; the put must not be tried again before it is known what became of it.
+    pub fn put<S: Store>(&mut self, alloc: Global, store: &mut S, moment: u64) -> PutEnd
+        requires running { IsRunning self.old }
+        requires ready { is_ready self.old ≡ true }
+        ensures leaves { MatchOption self.old.publish.latest ⊥ (λ read.
+            PutLeaves moment self.old read result self.new) }
+        ensures puts { MatchOption self.old.publish.latest ⊥ (λ read.
+            ManifestPuts S.told (S.shown store.old) (S.shown store.new)
+            self.old.publish read (plan_of self.old) moment result self.new.publish) }
+        ensures sound { OverSoundLog S.told (S.shown store.old) (S.shown store.new) (λ mine.
+            MatchOption self.old.publish.latest ⊥ (λ read. (view : List Writes) →
+            MayPut mine (S.shown store.old).log view self.old read →
+            ManifestPutSound S.told mine (S.shown store.old) (S.shown store.new)
+            self.old.publish read (plan_of self.old) moment result self.new.publish)) }
+        ensures reached { S.reaches store.old store.new }
+        ensures left { result ≡ PutEnd.Refused → left_of self.new ≡ 2 }
+        ensures running { result ≡ PutEnd.Refused → IsRunning self.new }
+    {
+        let end = self.publish.put(alloc, store, &self.plan, moment);
+        self.published = is_published(end);
+        end
+    }
+}
+
+// Whether a put published.
+fn is_published(end: PutEnd) -> bool
+    ensures { result ≡ is_published end }
+{
+    matches!(end, PutEnd::Published(_))
+}
