@@ -3,6 +3,6 @@ mod DeleteLaws
 mod GetLaws
 mod PutLaws
 mod Sweeps
-mod Taken
+pub mod Taken
 mod Walks
 mod WorkLaws

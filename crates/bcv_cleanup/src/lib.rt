@@ -20,6 +20,3 @@ mod released;
 
 pub use cleanup::Cleanup;
 pub use laws::{nothing_is_complete, sweep_is_the_edit, taken_stays};
-
-#[cfg(test)]
-mod tests;

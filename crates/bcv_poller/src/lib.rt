@@ -11,6 +11,3 @@ mod polled;
 
 pub use manifest_poll::poll;
 pub use polled::Polled;
-
-#[cfg(test)]
-mod tests;

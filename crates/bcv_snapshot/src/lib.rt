@@ -13,8 +13,6 @@ mod held_block;
 pub mod laws;
 mod look;
 mod place;
-#[cfg(test)]
-mod tests;
 mod txn;
 
 pub use block_fetch::fetch;

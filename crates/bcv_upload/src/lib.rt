@@ -16,8 +16,6 @@ mod block_text;
 mod fetch;
 mod laws;
 mod next_text;
-#[cfg(test)]
-mod tests;
 mod upload;
 mod upload_put;
 mod upload_work;

@@ -3,7 +3,7 @@ use Rattle.bcv_cache.specs.Entry.{Entry}
 use Rattle.bcv_snapshot.specs.declared.held_block.HeldBlock.{HeldBlock}
 use Rattle.bcv_snapshot.specs.Pins.{HasPins}
 use Rattle.bcv_snapshot.proofs.PinLaws.{own_pins, pins_filled}
-use Rattle.bcv_snapshot.proofs.tests.hold_and_free.Goals as goal
+use Rattle.task_tests.proofs.snapshot.hold_and_free.Goals as goal
 
 no_pins : (es : List Entry) → HasPins [] es
 no_pins es = record { ids = tt; counts = λ k. omega arith }

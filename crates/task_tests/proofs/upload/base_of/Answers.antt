@@ -1,7 +1,7 @@
 use Rattle.std.proofs.Common.{◌∙◌, length, refl, sym, ap, subst, arith}
 use Rattle.std.specs.List.{AllByRecursion}
 use Rattle.bcv_base.specs.Ids.{IsId}
-use Rattle.bcv_upload.proofs.tests.base_of.Goals as goal
+use Rattle.task_tests.proofs.upload.base_of.Goals as goal
 
 pub returns-clause-base : goal.returns-clause-base
 unfolding lib.Count.ones

@@ -4,9 +4,9 @@ ghost use Rattle.bcv_base.specs.Views.{view_size};
 ghost use Rattle.bcv_pages.specs.Held.{CanView, view_of};
 ghost use Rattle.bcv_upload.specs.State.{IsBase};
 
-use crate::Upload;
 use bcv_base::{DbEntry, DbName, Id16, Seq, TxnBase};
 use bcv_pages::{PageSet, WriteFault, WriteTxn};
+use bcv_upload::Upload;
 use std::alloc::Global;
 use std::test::Fail;
 

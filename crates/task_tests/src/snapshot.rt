@@ -5,11 +5,11 @@ ghost use Rattle.bcv_cache.specs.Cache.{IsPinnable, IsSlotOf};
 ghost use Rattle.bcv_pages.specs.Held.{CanView, last_of};
 ghost use Rattle.bcv_snapshot.specs.Opened.{block_id};
 
-use super::*;
 use bcv_base::{DbEntry, DbName, Id16, ObjName, Outcome, Seq, TxnBase};
 use bcv_cache::{BlockCache, Slot};
 use bcv_memstore::MemStore;
 use bcv_pages::{PageSet, WriteTxn};
+use bcv_snapshot::{Fetched, Look, Place, Txn, fetch};
 use bcv_store::{Cond, Store};
 use std::alloc::Global;
 use std::process::Abort;

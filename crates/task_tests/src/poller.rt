@@ -1,6 +1,6 @@
-use super::*;
 use bcv_base::{Id16, Seen};
 use bcv_memstore::MemStore;
+use bcv_poller::{Polled, poll};
 use bcv_publish::{Created, create};
 use std::test::*;
 

@@ -4,7 +4,7 @@ use Rattle.std.specs.List.{AllByRecursion}
 use Rattle.bcv_base.specs.declared.id.Id16.{Id16}
 use Rattle.bcv_base.specs.Ids.{IsId}
 use Rattle.bcv_base.specs.ManifestRules.{is_page_size}
-use Rattle.bcv_snapshot.proofs.tests.entry_of.Goals as goal
+use Rattle.task_tests.proofs.snapshot.entry_of.Goals as goal
 
 is_page : is_page_size 1024 512 ≡ true
 unfolding ones

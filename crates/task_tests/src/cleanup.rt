@@ -2,8 +2,8 @@ ghost use Rattle.std.specs.Prelude.{◌≡◌, false};
 ghost use Rattle.bcv_keeprule.specs.Retention.{IsKeepRule};
 ghost use Rattle.bcv_cleanup.specs.State.{IsRunning, is_ready};
 
-use super::*;
 use bcv_base::{Id16, ObjName, Seen, SetClock};
+use bcv_cleanup::Cleanup;
 use bcv_keeprule::{KeepRule, retention_passed};
 use bcv_memstore::MemStore;
 use bcv_publish::{PutEnd, Work};

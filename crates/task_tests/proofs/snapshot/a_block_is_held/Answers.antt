@@ -1,5 +1,5 @@
-use Rattle.bcv_dbmap.proofs.Trying.{is_power}
-use Rattle.bcv_snapshot.proofs.tests.a_block_is_held.Goals as goal
+use Rattle.task_tests.proofs.Powers.{is_power}
+use Rattle.task_tests.proofs.snapshot.a_block_is_held.Goals as goal
 
 pub begin-txn-requires-clause-block : goal.begin-txn-requires-clause-block
 begin-txn-requires-clause-block g c = is_power
