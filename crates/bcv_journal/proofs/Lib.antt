@@ -8,3 +8,6 @@ mod Loading
 mod Empty
 mod LoadParts
 mod Appended
+mod Window
+mod Laid
+mod Restarted

@@ -93,7 +93,7 @@ not_both bytes items place s b =
     let same = one_file bytes s.front b.front items b.items (s.gate ∷ s.rest) (1 ∷ b.after) s.is_front b.is_front s.each b.each (spelled_end bytes items s) (breaks_end bytes place b) s.whole b.whole in
     s.closed (cc same.1)
 
-spelled_head : (bytes : List ℕ) (items : List (List ℕ)) (s : IsSpelled bytes items) → (take 8 bytes ≡ magic) × (is_second bytes ≡ is_second s.front) × (start_in bytes (is_second bytes) ≡ length s.front)
+pub spelled_head : (bytes : List ℕ) (items : List (List ℕ)) (s : IsSpelled bytes items) → (take 8 bytes ≡ magic) × (is_second bytes ≡ is_second s.front) × (start_in bytes (is_second bytes) ≡ length s.front)
 spelled_head bytes items s = head_is bytes s.front (area_of items ++ s.gate ∷ s.rest) s.is_front (s.whole ∙ append_assoc s.front (area_of items) (s.gate ∷ s.rest))
 
 breaks_head : (bytes : List ℕ) (place : ℕ) (b : BreaksAt bytes place) → (take 8 bytes ≡ magic) × (is_second bytes ≡ is_second b.front) × (start_in bytes (is_second bytes) ≡ length b.front)

@@ -13,6 +13,7 @@ mod journal;
 mod keep;
 mod layout;
 mod load;
+mod restart;
 
 pub use fault::{JournalFault, Noted};
 pub use journal::Journal;
