@@ -11,3 +11,4 @@ mod Appended
 mod Window
 mod Laid
 mod Restarted
+mod Replaced
