@@ -1,5 +1,5 @@
 -- What a crash leaves while a second area is laid and chosen.
-use Rattle.std.proofs.Common.{◌≡◌, ◌⊎◌, inl, inr, ⊎_elim, ℕ, ◌+◌, ◌-◌, ◌<◌, ◌≤◌, ◌^◌, ◌==◌, Bool, true, false, not, List, [], ◌∷◌, ◌++◌, length, get_or, take, drop, Ok, refl, sym, ◌∙◌, ap, subst, arith, lit<, length-append}
+use Rattle.std.proofs.Common.{◌≡◌, ◌⊎◌, inl, inr, ⊎_elim, ℕ, ◌+◌, ◌-◌, ◌<◌, ◌≤◌, ◌^◌, ◌==◌, Bool, true, false, not, List, [], ◌∷◌, ◌++◌, length, get_or, take, drop, refl, sym, ◌∙◌, ap, subst, arith, lit<, length-append}
 use Rattle.std.proofs.lemmas.List.{drop_more, get_or-take}
 use Rattle.std.proofs.lemmas.Nat.{from_be_bytes-to_be_bytes_4}
 use Rattle.std.specs.Int.{w32, from_be_bytes, to_be_bytes}
@@ -7,12 +7,12 @@ use Rattle.bcv_disk.specs.Calls.{LeavesOnly-more, LeavesOnly-started}
 use Rattle.bcv_disk.specs.Crash.{LeavesOnly, Only, Passes, Through, Torn, put}
 use Rattle.bcv_disk.specs.DiskShown.{DiskShown}
 use Rattle.bcv_disk.specs.Told.{put_is_torn}
-use Rattle.bcv_journal.specs.Layout.{Loads, area_of, field_of, is_second, start_in}
+use Rattle.bcv_journal.specs.Layout.{EndsAt, area_of, field_of, is_second, start_in}
 use Rattle.bcv_journal.specs.Moved.{IsApart, IsWholeArea, LeadsTo, moved, selector_of, size_of}
 use Rattle.bcv_journal.specs.Settled.{IsEither, IsSettled}
 use Rattle.bcv_journal.specs.declared.area.Area.{Area}
 use Rattle.bcv_journal.proofs.Head.{field-least}
-use Rattle.bcv_journal.proofs.Window.{IsChosen, chosen_loads, chosen_settled, leads_torn, leads_within, put_window, settled_chosen, window}
+use Rattle.bcv_journal.proofs.Window.{IsChosen, chosen_ends, chosen_settled, leads_torn, leads_within, put_window, settled_chosen, window}
 
 fields_apart : (second : Bool) → (field_of second + 4 ≤ field_of (not second)) ⊎ (field_of (not second) + 4 ≤ field_of second)
 fields_apart true = inr (omega arith)
@@ -62,10 +62,10 @@ module _ (old : DiskShown) (area : Area) (start : ℕ) (block : List ℕ) (items
       (inr (omega (arith, field-least (not area.second), own.leads.low)))
 
   abbrev Still : List ℕ → Type 0
-  Still image = Loads image (Ok items)
+  Still image = EndsAt image items area.tail
 
   still : (image : List ℕ) → Own image → Still image
-  still image own = chosen_loads area.second area.start items image own
+  still image own = subst (λ (n : ℕ). EndsAt image items n) (sym s.tail_is) (chosen_ends area.second area.start items image own)
 
   module _ (only_now : (image : List ℕ) → old.left_since old.moment image → old.may_leave image) where
     started : LeavesOnly old old Still
@@ -166,15 +166,21 @@ module _ (old : DiskShown) (area : Area) (start : ℕ) (items given : List (List
     leads = leads_torn old.seen image 8 1 second from those leads_to torn within (inr (omega (arith, field_low second))) (inr (omega (arith, leads_to.low)));
   }
 
-  either_image : (image : List ℕ) → Torn 8 1 old.seen image → IsEither items given image
+  abbrev Either : List ℕ → Type 0
+  Either image = IsEither items area.tail given (start + size_of given) image
+
+  own_ends : (image : List ℕ) → IsChosen area.second area.start items image → Either image
+  own_ends image c = inl (subst (λ (n : ℕ). EndsAt image items n) (sym s.tail_is) (chosen_ends area.second area.start items image c))
+
+  either_image : (image : List ℕ) → Torn 8 1 old.seen image → Either image
   either_image image torn = ⊎_elim
-      (λ is. inl (chosen_loads area.second area.start items image (by_selector image torn area.second area.start items own.leads is)))
-      (λ is. inr (chosen_loads (not area.second) start given image (by_selector image torn (not area.second) start given leads is)))
+      (λ is. own_ends image (by_selector image torn area.second area.start items own.leads is))
+      (λ is. inr (chosen_ends (not area.second) start given image (by_selector image torn (not area.second) start given leads is)))
       (either_second area.second (is_second image))
 
-  pub while_chosen : ((image : List ℕ) → old.left_since old.moment image → old.may_leave image) → (new : DiskShown) → Passes old new (Through (Torn 8 1) old.may_leave) → LeavesOnly old new (IsEither items given)
-  while_chosen only_now new call = LeavesOnly-more old old new (IsEither items given) _
-      (LeavesOnly-started old (IsEither items given) (λ image left. subst (IsEither items given) (sym (s.durable image (only_now image left))) (inl (chosen_loads area.second area.start items old.seen own)))) call
+  pub while_chosen : ((image : List ℕ) → old.left_since old.moment image → old.may_leave image) → (new : DiskShown) → Passes old new (Through (Torn 8 1) old.may_leave) → LeavesOnly old new Either
+  while_chosen only_now new call = LeavesOnly-more old old new Either _
+      (LeavesOnly-started old Either (λ image left. subst Either (sym (s.durable image (only_now image left))) (own_ends old.seen own))) call
       (λ image through. either_image image (subst (λ (l : List ℕ). Torn 8 1 l image) (s.durable through.0 through.1) through.2))
 
   pub settled_chosen_now : (new : DiskShown) → new.seen ≡ put old.seen 8 (selector_of (not area.second) ∷ []) → Only new.seen new.may_leave → IsSettled new (moved area start given) given

@@ -1,5 +1,5 @@
 -- What the two parts of a restart come to.
-use Rattle.std.proofs.Common.{◌≡◌, inl, inr, ℕ, ◌+◌, ◌<◌, ◌≤◌, not, List, [], ◌∷◌, length, Ok, refl, sym, ◌∙◌, ap, subst, arith}
+use Rattle.std.proofs.Common.{◌≡◌, inl, inr, ℕ, ◌+◌, ◌<◌, ◌≤◌, not, List, [], ◌∷◌, length, refl, sym, ◌∙◌, ap, subst, arith}
 use Rattle.std.specs.Int.{w32, to_be_bytes}
 use Rattle.bcv_disk.specs.Calls.{CountsCall-done, DiskFails-as, DiskFails-then, LeavesOnly-then, LeavesOnly-weaker}
 use Rattle.bcv_disk.specs.Crash.{Passes, Through, Torn, put}
@@ -10,8 +10,8 @@ use Rattle.bcv_disk.specs.Troubles.{counted}
 use Rattle.bcv_disk.specs.declared.disk.DiskEnd.{DiskEnd}
 use Rattle.bcv_disk.specs.declared.disk.DiskEnd.TheVariants.{Done, Failed, NoMemory}
 use Rattle.bcv_journal.specs.KeptWrite.{DiskKeeps}
-use Rattle.bcv_journal.specs.Layout.{Loads, field_of}
-use Rattle.bcv_journal.specs.Moved.{DiskChooses, DiskLays, DiskMoves, IsApart, IsWholeArea, selector_of}
+use Rattle.bcv_journal.specs.Layout.{EndsAt, field_of}
+use Rattle.bcv_journal.specs.Moved.{DiskChooses, DiskLays, DiskMoves, IsApart, IsWholeArea, selector_of, size_of}
 use Rattle.bcv_journal.specs.Settled.{IsEither}
 use Rattle.bcv_journal.specs.declared.area.Area.{Area}
 use Rattle.bcv_journal.proofs.Append.{settled_same}
@@ -157,7 +157,7 @@ module _ (told : DiskTold) (old mid : DiskShown) (area : Area) (start : ℕ) (bl
     room_done = λ t done. absurd (cc done);
     room_kept = λ t none. absurd (cc none);
     items = λ t items given s whole. record {
-      any_moment = LeavesOnly-weaker old mid (λ (image : List ℕ). Loads image (Ok items)) (IsEither items given) (λ image loads. inl loads) (laid.items t items given s whole).any_moment;
+      any_moment = LeavesOnly-weaker old mid (λ (image : List ℕ). EndsAt image items area.tail) (IsEither items area.tail given (start + size_of given)) (λ image ends. inl ends) (laid.items t items given s whole).any_moment;
       done = λ done. absurd (cc done);
       kept = λ none. absurd (cc none);
     };
@@ -170,7 +170,7 @@ module _ (told : DiskTold) (old mid : DiskShown) (area : Area) (start : ℕ) (bl
     room_done = λ t done. absurd (cc done);
     room_kept = λ t none. laid.no_shorter t (λ failed. cc failed);
     items = λ t items given s whole. record {
-      any_moment = LeavesOnly-weaker old mid (λ (image : List ℕ). Loads image (Ok items)) (IsEither items given) (λ image loads. inl loads) (laid.items t items given s whole).any_moment;
+      any_moment = LeavesOnly-weaker old mid (λ (image : List ℕ). EndsAt image items area.tail) (IsEither items area.tail given (start + size_of given)) (λ image ends. inl ends) (laid.items t items given s whole).any_moment;
       done = λ done. absurd (cc done);
       kept = λ none. (laid.items t items given s whole).kept refl;
     };
@@ -186,8 +186,8 @@ module _ (told : DiskTold) (old mid : DiskShown) (area : Area) (start : ℕ) (bl
         let tells = laid.items t items given s whole in
         let then = chosen.items t items given start (tells.done refl).0 (tells.done refl).1 in
         record {
-          any_moment = LeavesOnly-then old mid new (IsEither items given)
-              (LeavesOnly-weaker old mid (λ (image : List ℕ). Loads image (Ok items)) (IsEither items given) (λ image loads. inl loads) tells.any_moment) then.any_moment;
+          any_moment = LeavesOnly-then old mid new (IsEither items area.tail given (start + size_of given))
+              (LeavesOnly-weaker old mid (λ (image : List ℕ). EndsAt image items area.tail) (IsEither items area.tail given (start + size_of given)) (λ image ends. inl ends) tells.any_moment) then.any_moment;
           done = then.done;
           kept = then.kept;
         };

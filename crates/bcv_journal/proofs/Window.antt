@@ -1,10 +1,10 @@
 -- What a torn write leaves of the parts of a journal's file that it does not touch.
-use Rattle.std.proofs.Common.{◌≡◌, ◌⊎◌, inl, inr, ⊎_elim, ℕ, ◌+◌, ◌-◌, ◌<◌, ◌≤◌, ◌^◌, ◌==◌, min, Bool, true, false, not, List, [], ◌∷◌, ◌++◌, length, get_or, take, drop, Ok, refl, sym, ◌∙◌, ap, subst, arith, append_assoc, length-append, length-drop, length-take, length-take-le, take-append-drop}
+use Rattle.std.proofs.Common.{◌≡◌, ◌⊎◌, inl, inr, ⊎_elim, ℕ, ◌+◌, ◌-◌, ◌<◌, ◌≤◌, ◌^◌, ◌==◌, min, Bool, true, false, not, List, [], ◌∷◌, ◌++◌, length, get_or, take, drop, refl, sym, ◌∙◌, ap, subst, arith, append_assoc, length-append, length-drop, length-take, length-take-le, take-append-drop}
 use Rattle.std.proofs.lemmas.List.{drop-drop, drop-take, drop_at, take-take, take_at}
 use Rattle.std.specs.Int.{w32, from_be_bytes}
 use Rattle.bcv_disk.specs.Crash.{Only, Torn, put}
 use Rattle.bcv_disk.specs.DiskShown.{DiskShown}
-use Rattle.bcv_journal.specs.Layout.{IsSpelled, Loads, area_of, field_of, is_second, magic, start_in, tail_of}
+use Rattle.bcv_journal.specs.Layout.{EndsAt, IsSpelled, area_of, field_of, is_second, magic, start_in, tail_of}
 use Rattle.bcv_journal.specs.Moved.{LeadsTo, size_of}
 use Rattle.bcv_journal.specs.Settled.{IsSettled}
 use Rattle.bcv_journal.specs.declared.area.Area.{Area}
@@ -76,8 +76,9 @@ spelled_of second start items bytes c = record {
   whole = chosen_back second start items bytes c;
 }
 
-pub chosen_loads : (second : Bool) (start : ℕ) (items : List (List ℕ)) (bytes : List ℕ) → IsChosen second start items bytes → Loads bytes (Ok items)
-chosen_loads second start items bytes c = inr (c.short, spelled_of second start items bytes c)
+pub chosen_ends : (second : Bool) (start : ℕ) (items : List (List ℕ)) (bytes : List ℕ) → IsChosen second start items bytes → EndsAt bytes items (tail_of start items)
+chosen_ends second start items bytes c =
+    inr (c.short, spelled_of second start items bytes c, ap (λ (n : ℕ). tail_of n items) (sym (length-take-le start bytes (omega (arith, leads_within bytes second start items c.leads)))))
 
 pub chosen_settled : (now : DiskShown) (area : Area) (items : List (List ℕ)) → IsChosen area.second area.start items now.seen → area.tail ≡ tail_of area.start items → Only now.seen now.may_leave → IsSettled now area items
 chosen_settled now area items c tail only = record {

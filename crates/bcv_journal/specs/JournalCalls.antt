@@ -16,7 +16,7 @@ use Rattle.bcv_journal.specs.declared.journal.Journal.{Journal}
 -- what an append does to the items of a journal that has them, at every moment and at its end
 pub record AppendTells {D : Type 0} {g : _} (shown : D → DiskShown) (old new : Journal D g) (bytes : List ℕ) (result : Noted) (items : List (List ℕ)) : Type 0 where
   -- a crash at any moment of the call leaves the items before it, or those and the new one
-  pub any_moment : LeavesOnly (shown (disk_of old)) (shown (disk_of new)) (IsBeforeOrAfter items bytes)
+  pub any_moment : LeavesOnly (shown (disk_of old)) (shown (disk_of new)) (IsBeforeOrAfter items (tail_at old) bytes)
   pub done : result ≡ Done → HasItems shown new (items ++ bytes ∷ [])
   pub kept : (result ≡ NoMemory) ⊎ (result ≡ JournalFull) → HasItems shown new items
 
@@ -40,7 +40,7 @@ pub record JournalAppends {D : Type 0} {g : _} (told : DiskTold) (shown : D → 
 -- what a restart does to the items of a journal that has them, at every moment and at its end
 pub record RestartTells {D : Type 0} {g : _} (shown : D → DiskShown) (old new : Journal D g) (given : List (List ℕ)) (result : Noted) (items : List (List ℕ)) : Type 0 where
   -- a crash at any moment of the call leaves the items before it, or the given ones
-  pub any_moment : LeavesOnly (shown (disk_of old)) (shown (disk_of new)) (IsEither items given)
+  pub any_moment : LeavesOnly (shown (disk_of old)) (shown (disk_of new)) (IsEither items (tail_at old) given (new_start (size_of given) (start_at old) (tail_at old) + size_of given))
   pub done : result ≡ Done → HasItems shown new given
   pub kept : result ≡ NoMemory → HasItems shown new items
 

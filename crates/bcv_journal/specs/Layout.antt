@@ -98,3 +98,8 @@ IsNoJournal bytes place = ((2 ^ 31 < length bytes) × (place ≡ 2 ^ 31))
 abbrev pub Loads : List ℕ → Result (List (List ℕ)) ℕ → Type 0
 Loads bytes (Ok items) = ((length bytes ≤ 18) × (items ≡ [])) ⊎ ((length bytes ≤ 2 ^ 31) × IsSpelled bytes items)
 Loads bytes (Err place) = IsNoJournal bytes place
+
+-- the file loads as these items, and this is the place of the closed gate after them; in a new file it is 17
+abbrev pub EndsAt : List ℕ → List (List ℕ) → ℕ → Type 0
+EndsAt bytes items tail =
+    ((length bytes ≤ 18) × (items ≡ []) × (tail ≡ 17)) ⊎ ((length bytes ≤ 2 ^ 31) × (s : IsSpelled bytes items) × (tail ≡ tail_of (length s.front) items))

@@ -1,5 +1,5 @@
 -- What the parts of a restart promise.
-use Rattle.std.specs.Prelude.{◌≡◌, ◌≢◌, ◌⊎◌, ℕ, ◌+◌, ◌^◌, ◌<◌, ◌≤◌, Bool, not, List, [], ◌∷◌, ◌++◌, length, take, drop, nat_le, Ok, if◌then◌else◌}
+use Rattle.std.specs.Prelude.{◌≡◌, ◌≢◌, ◌⊎◌, ℕ, ◌+◌, ◌^◌, ◌<◌, ◌≤◌, Bool, not, List, [], ◌∷◌, ◌++◌, length, take, drop, nat_le, if◌then◌else◌}
 use Rattle.std.specs.List.{AllByRecursion}
 use Rattle.bcv_disk.specs.Crash.{LeavesOnly}
 use Rattle.bcv_disk.specs.DiskShown.{DiskShown, DiskTold}
@@ -7,7 +7,7 @@ use Rattle.bcv_disk.specs.DiskCalls.{DiskFails}
 use Rattle.bcv_disk.specs.Troubles.{counted}
 use Rattle.bcv_disk.specs.declared.disk.DiskEnd.{DiskEnd}
 use Rattle.bcv_disk.specs.declared.disk.DiskEnd.TheVariants.{Done, Failed, NoMemory}
-use Rattle.bcv_journal.specs.Layout.{IsItem, Loads, area_of, start_in}
+use Rattle.bcv_journal.specs.Layout.{EndsAt, IsItem, area_of, start_in}
 use Rattle.bcv_journal.specs.Settled.{IsEither, IsSettled}
 use Rattle.bcv_journal.specs.declared.area.Area.{Area}
 
@@ -49,7 +49,7 @@ pub record IsApart (area : Area) (start size : ℕ) : Type 0 where
 
 -- items are laid beside a file's own: a crash at any moment leaves its own
 pub record LayTells (old new : DiskShown) (area : Area) (start : ℕ) (given : List (List ℕ)) (result : DiskEnd) (items : List (List ℕ)) : Type 0 where
-  pub any_moment : LeavesOnly old new (λ image. Loads image (Ok items))
+  pub any_moment : LeavesOnly old new (λ image. EndsAt image items area.tail)
   pub done : result ≡ Done → IsSettled new area items × LeadsTo new.seen (not area.second) start given
   pub kept : result ≡ NoMemory → IsSettled new area items
 
@@ -63,7 +63,7 @@ pub record DiskLays (told : DiskTold) (old new : DiskShown) (area : Area) (start
 
 -- a file's items give way to others: a crash at any moment leaves the ones or the others
 pub record MoveTells (old new : DiskShown) (area : Area) (start : ℕ) (given : List (List ℕ)) (result : DiskEnd) (items : List (List ℕ)) : Type 0 where
-  pub any_moment : LeavesOnly old new (IsEither items given)
+  pub any_moment : LeavesOnly old new (IsEither items area.tail given (start + size_of given))
   pub done : result ≡ Done → IsSettled new (moved area start given) given
   pub kept : result ≡ NoMemory → IsSettled new area items
 

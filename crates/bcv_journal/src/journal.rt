@@ -28,7 +28,7 @@ impl<D: Disk> Journal<D> {
     ghost use Rattle.bcv_journal.specs.Loaded.{JournalLoads};
     ghost use Rattle.bcv_journal.specs.Moved.{size_of};
     ghost use Rattle.bcv_journal.specs.Settled.{items_of};
-    ghost use Rattle.bcv_journal.specs.Parts.{is_closed, start_at, tail_at};
+    ghost use Rattle.bcv_journal.specs.Parts.{HasItems, LeavesItems, is_closed, start_at, tail_at};
 
     /// Loads the journal of a disk: it syncs the disk first, and gives the items in order.
     ///
@@ -70,6 +70,7 @@ impl<D: Disk> Journal<D> {
         ensures start { result.0 ≡ start_at self.now }
         ensures tail { result.1 ≡ tail_at self.now }
         ensures order { (17 ≤ result.0) × (result.0 ≤ result.1) × (result.1 < 2 ^ 31) }
+        ensures leaves { (items : List (List ℕ)) → HasItems D.shown self.now items → LeavesItems (D.shown self.now.disk) items result.1 }
     {
         (self.area.start, self.area.tail)
     }
