@@ -1,11 +1,11 @@
 -- What a crash leaves while a file is loaded.
-use Rattle.std.proofs.Common.{◌≡◌, inl, inr, ⊎_elim, ℕ, ◌≤◌, List, ◌∷◌, length, Result, Ok, Err, ◌∙◌, ap, subst, arith, length-append}
+use Rattle.std.proofs.Common.{◌≡◌, inl, inr, ⊎_elim, ℕ, ◌≤◌, List, length, Result, Ok, Err, ◌∙◌, subst, arith}
 use Rattle.bcv_disk.specs.Crash.{LeavesOnly, Only, Passes, Through, Torn}
 use Rattle.bcv_disk.specs.Calls.{LeavesOnly-more, LeavesOnly-started, LeavesOnly-then, LeavesOnly-weaker}
 use Rattle.bcv_disk.specs.DiskShown.{DiskShown}
-use Rattle.bcv_journal.specs.Layout.{EndsAt, IsSpelled, Loads, area_of, tail_of, written}
+use Rattle.bcv_journal.specs.Layout.{EndsAt, Loads}
 use Rattle.bcv_journal.specs.Settled.{IsOldOrAlike, LoadsAlike}
-use Rattle.bcv_journal.proofs.Unique.{short_items}
+use Rattle.bcv_journal.proofs.Unique.{short_items, short_tail}
 
 -- whatever a crash makes of a short file while it becomes an empty journal, it loads as before
 empty_loads : (bytes image : List ℕ) → length bytes ≤ 18 → Torn 0 18 bytes image → (outcome : Result (List (List ℕ)) ℕ) → Loads bytes outcome → Loads image outcome
@@ -13,11 +13,6 @@ empty_loads bytes image short torn (Ok items) (inl none) = inl (omega (arith, to
 empty_loads bytes image short torn (Ok items) (inr whole) = inl (omega (arith, torn.no_longer, short), short_items bytes items whole.1 short)
 empty_loads bytes image short torn (Err place) (inl long) = absurd (omega (arith, long.0, short))
 empty_loads bytes image short torn (Err place) (inr long) = absurd (omega (arith, long.0, short))
-
--- items that are spelled in eighteen bytes end at 17
-short_tail : (bytes : List ℕ) (items : List (List ℕ)) (s : IsSpelled bytes items) → length bytes ≤ 18 → tail_of (length s.front) items ≡ 17
-short_tail bytes items s short =
-    omega (arith, short, s.is_front.long, ap length s.whole, length-append (written s.front items) (s.gate ∷ s.rest), length-append s.front (area_of items))
 
 empty_ends : (bytes image : List ℕ) → length bytes ≤ 18 → Torn 0 18 bytes image → (items : List (List ℕ)) (tail : ℕ) → EndsAt bytes items tail → EndsAt image items tail
 empty_ends bytes image short torn items tail (inl none) = inl (omega (arith, torn.no_longer, short), none.1, none.2)

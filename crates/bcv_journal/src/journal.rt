@@ -1,4 +1,4 @@
-ghost use Rattle.std.specs.Prelude.{◌≡◌, ◌↔◌, ◌<◌, ◌≤◌, ◌+◌, ◌^◌, [], ◌∷◌, true, false, Some, List, ℕ, length, IsTrue, ◌-◌, ◌*◌, ◌⊎◌};
+ghost use Rattle.std.specs.Prelude.{◌≡◌, ◌↔◌, ◌<◌, ◌≤◌, ◌+◌, ◌^◌, [], ◌∷◌, true, false, Some, List, ℕ, length, IsTrue, ◌⊎◌};
 
 use crate::area::Area;
 use crate::item::write_item;
@@ -103,14 +103,12 @@ impl<D: Disk> Journal<D> {
         }
     }
 
-    /// Puts the given items in place of all. They take at most half of the bytes that the old ones take.
+    /// Puts the given items in place of all: before the old ones where they have room there, else after them.
     ///
     /// A crash at any moment leaves the old items or the given ones, whole; at `Done` it leaves the given ones alone.
     /// `Closed` is tested first.
     pub fn restart(&mut self, alloc: Global, items: &[Vec<u8>]) -> Noted
-        requires some { 0 < length items.now }
         requires each { AllByRecursion IsItem (items_of items.now) }
-        requires frees { 2 * (size_of (items_of items.now) + 1) ≤ tail_at self.old - start_at self.old }
         requires room { (18 + size_of (items_of items.now) ≤ start_at self.old)
             ⊎ (tail_at self.old + 1 + size_of (items_of items.now) + 65 ≤ 2 ^ 31) }
         ensures { JournalRestarts D.told D.shown self.old self.new (items_of items.now) result }

@@ -1,8 +1,8 @@
 // The bytes of a journal's file.
-ghost use Rattle.std.specs.Prelude.{◌≡◌, ◌↔◌, ◌<◌, ◌≤◌, ◌+◌, ◌^◌, ◌++◌, [], ◌∷◌, List, ℕ, length, IfOk, IfErr, IsTrue, OnOk, MatchOption, Result, take};
+ghost use Rattle.std.specs.Prelude.{◌≡◌, ◌↔◌, ◌<◌, ◌≤◌, ◌+◌, ◌^◌, ◌++◌, [], ◌∷◌, List, ℕ, length, IfOk, IfErr, IsTrue, OnOk, MatchOption, Result, Ok, take};
 ghost use Rattle.std.specs.Int.{w32, to_be_bytes};
 ghost use Rattle.std.specs.List.{AllByRecursion};
-ghost use Rattle.bcv_journal.specs.Layout.{HasItem, IsItem, Loads, area_of, field_of, magic, open_item, start_in};
+ghost use Rattle.bcv_journal.specs.Layout.{EndsAt, HasItem, IsItem, Loads, area_of, field_of, magic, open_item, start_in};
 ghost use Rattle.bcv_journal.specs.Moved.{selector_of};
 ghost use Rattle.bcv_journal.specs.Settled.{items_of};
 ghost use Rattle.bcv_journal.specs.Reading.{IsRead, IsReadFault, IsShut};
@@ -22,6 +22,12 @@ pub const EMPTY: [u8; 18] = *b"BCVJRN02\0\0\0\0\x11\0\0\0\0\0";
 /// A file loads as one thing: as one list of items, or as no journal for one place.
 pub fn loads_once()
     ensures { (bytes : List ℕ) (a b : Result (List (List ℕ)) ℕ) → Loads bytes a → Loads bytes b → a ≡ b }
+{}
+
+/// What ends at a tail loads so, and with one tail alone.
+pub fn tail_once()
+    ensures loads { (bytes : List ℕ) (items : List (List ℕ)) (tail : ℕ) → EndsAt bytes items tail → Loads bytes (Ok items) }
+    ensures once { (bytes : List ℕ) (items : List (List ℕ)) (tail other : ℕ) → EndsAt bytes items tail → EndsAt bytes items other → tail ≡ other }
 {}
 
 fn has_magic(bytes: &[u8]) -> bool

@@ -17,7 +17,7 @@ mod restart;
 
 pub use fault::{JournalFault, Noted};
 pub use journal::Journal;
-pub use layout::loads_once;
+pub use layout::{loads_once, tail_once};
 pub use load::Load;
 
 #[cfg(test)]
