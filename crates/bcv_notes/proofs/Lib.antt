@@ -7,3 +7,5 @@ pub mod Pages
 pub mod Placing
 pub mod ReadNotes
 pub mod Uploads
+mod KeptSizes
+mod Refolded
