@@ -8,4 +8,5 @@ pub mod Placing
 pub mod ReadNotes
 pub mod Uploads
 mod KeptSizes
+mod WellKept
 mod Refolded
