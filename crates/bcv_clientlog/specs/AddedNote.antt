@@ -42,8 +42,9 @@ pub record CompactTells {D : Type 0} {g : _} (told : DiskTold) (shown : D → Di
   pub are : AreNotes items k
   pub has : (result ≡ Done) ⊎ (result ≡ NoMemory) → HasItems shown new items
   pub calls : ℕ
-  pub moves : result ≡ Done → MovesTo (start_at old) (tail_at old) (notes_size (kept_notes k)) more (start_at new) (tail_at new) (calls + 4)
-  pub counts : told.troubled → result ≡ Done → (shown (disk_of new)).trouble.calls ≡ counted (shown (disk_of old)).trouble.calls calls
+  pub moves : result ≡ Done → MovesTo (start_at old) (tail_at old) (notes_size (kept_notes k)) more (start_at new) (tail_at new) calls
+  -- four calls more make so many in all
+  pub counts : told.troubled → result ≡ Done → counted (shown (disk_of new)).trouble.calls 4 ≡ counted (shown (disk_of old)).trouble.calls calls
 
 -- a compaction before a text of so many bytes, where there is one: Done in each case
 pub record JournalCompacts {D : Type 0} {g : _} (told : DiskTold) (shown : D → DiskShown) (old new : Journal D g) (k : Kept) (more : ℕ) (result : Noted) : Type 0 where

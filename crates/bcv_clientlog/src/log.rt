@@ -1,4 +1,5 @@
 ghost use Rattle.std.specs.Prelude.{◌≡◌, ◌≢◌, ◌<◌, ◌≤◌, ◌+◌, ◌^◌, Some, true, List, ℕ, length};
+ghost use Rattle.bcv_journal.specs.Parts.{tail_at};
 ghost use Rattle.bcv_model.specs.declared.note.Note.TheVariants.{Me, First, Committed, Intent, Done, Void, Revert};
 
 use crate::noting::{SPARE, add, add_compactly};

@@ -1,5 +1,5 @@
 // The text of a note is added to a journal.
-ghost use Rattle.std.specs.Prelude.{◌≡◌, ◌<◌, ◌≤◌, ◌^◌, IfOk, length};
+ghost use Rattle.std.specs.Prelude.{◌≡◌, ◌<◌, ◌≤◌, ◌^◌, IfOk, length, if◌then◌else◌};
 ghost use Rattle.bcv_clientlog.specs.AddedNote.{AddsText, CompactsText};
 
 use crate::compaction::compact;

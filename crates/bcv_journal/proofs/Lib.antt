@@ -3,7 +3,7 @@ mod Append
 mod Added
 mod Head
 mod Reader
-mod Unique
+pub mod Unique
 mod Loading
 mod Empty
 mod LoadParts

@@ -7,6 +7,6 @@ pub mod Pages
 pub mod Placing
 pub mod ReadNotes
 pub mod Uploads
-mod KeptSizes
+pub mod KeptSizes
 mod WellKept
-mod Refolded
+pub mod Refolded
