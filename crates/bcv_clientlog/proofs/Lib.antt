@@ -1,2 +1,5 @@
 mod Held
 mod Compacting
+mod Trying
+mod Adding
+mod LogNoted

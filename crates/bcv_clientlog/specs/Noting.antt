@@ -47,7 +47,7 @@ pub record NoteTells {D : Type 0} {g : _} (told : DiskTold) (shown : D → DiskS
   -- tail and notes' bytes together grow by twice what the note takes, or not at all
   pub within : log_tail new + log_area new ≤ log_tail old + log_area old + 2 * (5 + note_size x)
   pub unnoted : result ≢ Done → log_tail new + log_area new ≤ log_tail old + log_area old
-  pub calls : told.troubled → result ≡ Done → (shown (log_disk new)).trouble.calls ≡ counted (shown (log_disk old)).trouble.calls calls
+  pub counts : told.troubled → result ≡ Done → (shown (log_disk new)).trouble.calls ≡ counted (shown (log_disk old)).trouble.calls calls
 
 -- a note is tried after the others
 pub record LogNotes {D : Type 0} {g : _} (told : DiskTold) (shown : D → DiskShown) (old new : ClientLog D g) (x : Note) (result : Noted) : Type 0 where

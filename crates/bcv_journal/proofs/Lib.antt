@@ -1,5 +1,5 @@
 mod Bytes
-mod Append
+pub mod Append
 mod Added
 mod Head
 mod Reader
