@@ -1,8 +1,8 @@
 -- What the calls of a log come to, from those of its journal.
 use Rattle.std.proofs.Common.{◌≡◌, ◌≢◌, ◌⊎◌, inl, inr, ⊎_elim, ℕ, ◌+◌, ◌-◌, ◌*◌, ◌<◌, ◌≤◌, ◌^◌, Bool, true, false, List, [], ◌∷◌, ◌++◌, length, Vec, Global, Ok, Err, IfOk, is_some, refl, sym, ◌∙◌, ap, subst, arith}
 use Rattle.std.specs.Prelude.{IsSome}
-use Rattle.std.proofs.lemmas.Bool.{cases_lt}
-use Rattle.bcv_disk.specs.Calls.{DiskFails-none, DiskFails-then, LeavesOnly-then, LeavesOnly-weaker}
+use Rattle.std.proofs.lemmas.Bool.{cases_Bool, cases_lt}
+use Rattle.bcv_disk.specs.Calls.{DiskFails-as, DiskFails-none, DiskFails-then, LeavesOnly-then, LeavesOnly-weaker}
 use Rattle.bcv_disk.specs.Crash.{LeavesOnly}
 use Rattle.bcv_disk.specs.DiskCalls.{DiskFails}
 use Rattle.bcv_journal.specs.Moved.{new_start}
@@ -142,3 +142,161 @@ module _ {D : Type 0} {g : _} (told : DiskTold) (shown : D → DiskShown) (only_
   pub notes : (text : Text) → IfOk text (λ v. v.items ≡ note_text x) → AddsText told shown old.journal new.journal text (spare_after x) result → LogNotes told shown old new x result
   notes (Ok v) is a = record { leaves = added_leaves v.items is a; tells = λ t k h may. added_tells v.items is a t k h may }
   notes (Err e) is u = record { leaves = untried_leaves u; tells = λ t k h may. untried_tells u t k h (log_start old) (log_tail old) 4 }
+
+  -- ---- a note after a compaction
+
+  untried_compacts : (k : Kept) → IsUntried old.journal new.journal result → LogCompacts told shown old new k x result
+  untried_compacts k u = record {
+    leaves = untried_leaves u;
+    tells = λ t h may.
+        let m = moves (log_start old) (log_tail old) (size_kept k) (note_size x) in
+        record { begin = m.0; end = m.1; calls = m.2; moves = m.3; tells = untried_tells u t k h m.0 m.1 m.2; area = λ done. absurd (not_done_none u done) };
+  }
+
+  module _ (k : Kept) (bytes : List ℕ) (bytes_is : bytes ≡ note_text x) (named : MayStand k x → IsSome k.me) (is_open : is_closed old.journal ≡ false) (mid : Journal D g) where
+    abbrev before : (image : List ℕ) → Type 0
+    before image = LoadsAs image k (reach old.journal)
+
+    -- the compaction ended the call
+    stopped : (first : Noted) → first ≢ Done → JournalCompacts told shown old.journal mid k (length bytes) first → new.journal ≡ mid → result ≡ first → LogCompacts told shown old new k x result
+    stopped first not_done c same ended =
+        let other : result ≢ Done = λ done. not_done (sym ended ∙ done) in
+        record {
+          leaves = record {
+            closed = ((λ closed. absurd (c.not_closed (sym ended ∙ closed))), (λ shut. absurd (cc (shut, is_open))));
+            shuts = ((λ shut. inr (ended ∙ c.shuts.0 (ap is_closed (sym same) ∙ shut))), (λ why. ⊎_elim (λ shut. absurd (cc (shut, is_open))) (λ fault. ap is_closed same ∙ c.shuts.1 (sym ended ∙ fault)) why));
+            stays = λ closed. absurd (c.not_closed (sym ended ∙ closed));
+            fails = subst (λ (j : Journal D g). DiskFails told (shown (log_disk old)) (shown (disk_of j)) (result ≡ DiskFault)) (sym same)
+                (DiskFails-as told (shown (log_disk old)) (shown (disk_of mid)) (λ fault. sym ended ∙ fault) (λ fault. ended ∙ fault) c.fails);
+          };
+          tells = λ t h may.
+              let m = moves (log_start old) (log_tail old) (size_kept k) (note_size x) in
+              let ct = c.tells t h.items h.has h.are (named may) h.room in
+              record {
+                begin = m.0;
+                end = m.1;
+                calls = m.2;
+                moves = m.3;
+                tells = record {
+                  any_moment = subst (λ (j : Journal D g). LeavesOnly (shown (log_disk old)) (shown (disk_of j)) (LoadsUpTo k (reach old.journal) (x ∷ []))) (sym same)
+                      (LeavesOnly-weaker (shown (log_disk old)) (shown (disk_of mid)) before (LoadsUpTo k (reach old.journal) (x ∷ [])) (λ image l. inl l) ct.any_moment);
+                  done = λ done. absurd (other done);
+                  kept = λ why. record {
+                    items = ct.items;
+                    has = subst (λ (j : Journal D g). HasItems shown j ct.items) (sym same) (ct.has (⊎_elim (λ none. inr (sym ended ∙ none)) (λ full. absurd (c.not_full (sym ended ∙ full))) why));
+                    are = ct.are;
+                    waits = still other ∙ h.waits;
+                    room = subst (λ (j : Journal D g). HasRoom k (tail_at j)) (sym same) (room_moved k (log_tail old) (tail_at mid) (named may) h.room c.room);
+                  };
+                  starts = λ done. absurd (other done);
+                  ends = λ done. absurd (other done);
+                  fits = λ done. absurd (other done);
+                  full = λ full. absurd (c.not_full (sym ended ∙ full));
+                  within = omega (arith, ap reach same, c.within);
+                  unnoted = λ why. omega (arith, ap reach same, c.within);
+                  counts = λ v done. absurd (other done);
+                };
+                area = λ done. absurd (other done);
+              };
+        }
+
+    -- the note was tried after it
+    went : JournalCompacts told shown old.journal mid k (length bytes) Done → JournalAppends told shown mid new.journal bytes (spare_after x) result → LogCompacts told shown old new k x result
+    went c a =
+        let shut_mid : is_closed mid ≡ true → ⊥ = λ shut. cc (c.shuts.0 shut) in
+        record {
+          leaves = record {
+            closed = ((λ closed. absurd (shut_mid (a.closed.0 closed))), (λ shut. absurd (cc (shut, is_open))));
+            shuts = ((λ shut. ⊎_elim (λ was. absurd (shut_mid was)) (λ fault. inr fault) (a.shuts.0 shut)), (λ why. ⊎_elim (λ shut. absurd (cc (shut, is_open))) (λ fault. a.shuts.1 (inr fault)) why));
+            stays = λ closed. absurd (shut_mid (a.closed.0 closed));
+            fails = DiskFails-then told (shown (log_disk old)) (shown (disk_of mid)) (shown (log_disk new)) (λ fault. absurd (cc fault)) c.fails a.fails;
+          };
+          tells = λ t h may.
+              let ct = c.tells t h.items h.has h.are (named may) h.room in
+              let room : HasRoom k (tail_at mid) = room_moved k (log_tail old) (tail_at mid) (named may) h.room c.room in
+              let has = ct.has (inl refl) in
+              let size : length bytes ≡ note_size x = adding.size told shown only_now t mid k ct.items has ct.are room new.journal x may bytes bytes_is result a in
+              let moved : MovesTo (log_start old) (log_tail old) (size_kept k) (note_size x) (start_at mid) (tail_at mid) ct.calls =
+              subst (λ (n : ℕ). MovesTo (log_start old) (log_tail old) (size_kept k) n (start_at mid) (tail_at mid) ct.calls) size (ct.moves refl) in
+              record {
+                begin = start_at mid;
+                end = tail_at mid;
+                calls = ct.calls;
+                moves = moved;
+                tells = record {
+                  any_moment = LeavesOnly-then (shown (log_disk old)) (shown (disk_of mid)) (shown (log_disk new)) (LoadsUpTo k (reach old.journal) (x ∷ []))
+                      (LeavesOnly-weaker (shown (log_disk old)) (shown (disk_of mid)) before (LoadsUpTo k (reach old.journal) (x ∷ [])) (λ image l. inl l) ct.any_moment)
+                      (adding.any_moment told shown only_now t mid k ct.items has ct.are room new.journal x may bytes bytes_is result a (reach old.journal) c.within);
+                  done = λ done. record {
+                    items = ct.items ++ bytes ∷ [];
+                    has = (a.items t ct.items has).done done;
+                    are = adding.more_are told shown only_now t mid k ct.items has ct.are room new.journal x may bytes bytes_is result a;
+                    waits = waits done ∙ ap (waits_by x) h.waits ∙ sym (after_waits k x may);
+                    room = adding.room_done told shown only_now t mid k ct.items has ct.are room new.journal x may bytes bytes_is result a done;
+                  };
+                  kept = λ why.
+                      let not_done : result ≢ Done = λ done. ⊎_elim (λ none. cc (done, none)) (λ full. cc (done, full)) why in
+                      record {
+                        items = ct.items;
+                        has = (a.items t ct.items has).kept why;
+                        are = ct.are;
+                        waits = still not_done ∙ h.waits;
+                        room = adding.room_kept told shown only_now t mid k ct.items has ct.are room new.journal x may bytes bytes_is result a not_done;
+                      };
+                  starts = λ done. a.start;
+                  ends = λ done. omega (arith, a.tail done, size);
+                  fits = λ done. adding.fits told shown only_now t mid k ct.items has ct.are room new.journal x may bytes bytes_is result a (λ full. cc (done, full));
+                  full = λ full. omega (arith, (a.full.0 full).1, size);
+                  within = ⊎_elim
+                      (λ done. let le = adding.reach_done told shown only_now t mid k ct.items has ct.are room new.journal x may bytes bytes_is result a done in omega (arith, le, c.within))
+                      (λ other. let le = adding.reach_kept told shown only_now t mid k ct.items has ct.are room new.journal x may bytes bytes_is result a other in omega (arith, le, c.within)) (done_or_not result);
+                  unnoted = λ other. let le = adding.reach_kept told shown only_now t mid k ct.items has ct.are room new.journal x may bytes bytes_is result a other in omega (arith, le, c.within);
+                  counts = λ v done. a.calls v done ∙ ct.counts v refl;
+                };
+                area = λ done free.
+                    let least = short_area (log_start old) (log_tail old) (size_kept k) (note_size x) (start_at mid) (tail_at mid) ct.calls moved free in
+                    omega (arith, least, a.tail done, a.start, size);
+              };
+        }
+
+    then_compacts : spare_after x ≡ 64 → (first : Noted) → JournalCompacts told shown old.journal mid k (length bytes) first → AddsAfter told shown mid new.journal bytes first result → LogCompacts told shown old new k x result
+    then_compacts spare Done c a = went c (subst (λ (n : ℕ). JournalAppends told shown mid new.journal bytes n result) (sym spare) a)
+    then_compacts spare DiskFault c e = stopped DiskFault (λ done. cc done) c e.0 e.1
+    then_compacts spare NoMemory c e = stopped NoMemory (λ done. cc done) c e.0 e.1
+    then_compacts spare JournalFull c e = absurd e
+    then_compacts spare Closed c e = absurd e
+
+  pub compacts : (k : Kept) (text : Text) → IfOk text (λ v. v.items ≡ note_text x) → (MayStand k x → IsSome k.me) → spare_after x ≡ 64 → CompactsText told shown old.journal new.journal k text result → LogCompacts told shown old new k x result
+  compacts k (Ok v) is named spare (inl u) = untried_compacts k u
+  compacts k (Ok v) is named spare (inr c) = then_compacts k v.items is named c.is_open c.mid spare c.first c.compacted c.added
+  compacts k (Err e) is named spare u = untried_compacts k u
+
+-- ---- the room for the end of a publication, whatever the disk
+
+module _ {D : Type 0} {g : _} (told : DiskTold) (shown : D → DiskShown) (old new : Journal D g) (result : Noted) where
+  append_room : (bytes : List ℕ) (spare : ℕ) → JournalAppends told shown old new bytes spare result → (result ≢ Done → tail_at new ≡ tail_at old) × (result ≡ Done → tail_at new + 1 + spare ≤ 2 ^ 31)
+  append_room bytes spare a = (a.tail_stays, (λ done. ⊎_elim (λ past. absurd (cc (done, a.full.1 (open_at done, past)))) (λ le. omega (arith, a.tail done, le)) (cases_lt (2 ^ 31) (tail_at old + 6 + length bytes + spare))))
+    where
+      open_at : result ≡ Done → is_closed old ≡ false
+      open_at done = ⊎_elim (λ shut. absurd (cc (done, a.closed.1 shut))) (λ is_open. is_open) (cases_Bool (is_closed old))
+
+  pub added_room : (text : Text) (spare : ℕ) → AddsText told shown old new text spare result → (result ≢ Done → tail_at new ≡ tail_at old) × (result ≡ Done → tail_at new + 1 + spare ≤ 2 ^ 31)
+  added_room (Ok v) spare a = append_room v.items spare a
+  added_room (Err e) spare u = ((λ other. ap tail_at u.0), (λ done. absurd (⊎_elim (λ closed. cc (done, closed.0)) (λ none. cc (done, none.0)) u.1)))
+
+pub compacted_room : {D : Type 0} {g : _} (told : DiskTold) (shown : D → DiskShown) (old new : Journal D g) (k : Kept) (text : Text) (result : Noted) → CompactsText told shown old new k text result
+    → ((tail_at new ≤ tail_at old) ⊎ (tail_at new + 65 ≤ 2 ^ 31)) × (result ≡ Done → tail_at new + 65 ≤ 2 ^ 31)
+compacted_room {D} {g} told shown old new k (Ok v) result (inl u) = (inl (omega (arith, ap tail_at u.0)), (λ done. absurd (⊎_elim (λ closed. cc (done, closed.0)) (λ none. cc (done, none.0)) u.1)))
+compacted_room {D} {g} told shown old new k (Err e) result u = (inl (omega (arith, ap tail_at u.0)), (λ done. absurd (⊎_elim (λ closed. cc (done, closed.0)) (λ none. cc (done, none.0)) u.1)))
+compacted_room {D} {g} told shown old new k (Ok v) result (inr c) = by_first c.first c.compacted c.added
+  where
+    by_first : (first : Noted) → JournalCompacts told shown old c.mid k (length v.items) first → AddsAfter told shown c.mid new v.items first result → ((tail_at new ≤ tail_at old) ⊎ (tail_at new + 65 ≤ 2 ^ 31)) × (result ≡ Done → tail_at new + 65 ≤ 2 ^ 31)
+    by_first Done j a =
+        let room = append_room told shown c.mid new result v.items 64 a in (
+          ⊎_elim (λ done. inr (omega (arith, room.1 done))) (λ other. ⊎_elim (λ sooner. inl (omega (arith, sooner, room.0 other))) (λ free. inr (omega (arith, free, room.0 other))) j.room) (done_or_not result),
+          (λ done. omega (arith, room.1 done)),
+        )
+    by_first DiskFault j e = (⊎_elim (λ sooner. inl (omega (arith, sooner, ap tail_at e.0))) (λ free. inr (omega (arith, free, ap tail_at e.0))) j.room, (λ done. absurd (cc (done, e.1))))
+    by_first NoMemory j e = (⊎_elim (λ sooner. inl (omega (arith, sooner, ap tail_at e.0))) (λ free. inr (omega (arith, free, ap tail_at e.0))) j.room, (λ done. absurd (cc (done, e.1))))
+    by_first JournalFull j e = absurd e
+    by_first Closed j e = absurd e
