@@ -6,9 +6,9 @@ use Rattle.bcv_disk.specs.Calls.{DiskFails-as, DiskFails-none, DiskFails-then, L
 use Rattle.bcv_disk.specs.Crash.{LeavesOnly}
 use Rattle.bcv_disk.specs.DiskCalls.{DiskFails}
 use Rattle.bcv_journal.specs.Moved.{new_start}
-use Rattle.bcv_disk.specs.DiskShown.{DiskShown, DiskTold}
+use Rattle.bcv_disk.specs.DiskShown.{DiskShown, DiskTold, Trouble}
 use Rattle.bcv_disk.specs.Troubles.{counted}
-use Rattle.bcv_journal.specs.JournalCalls.{JournalAppends}
+use Rattle.bcv_journal.specs.JournalCalls.{JournalAppends, JournalPlans}
 use Rattle.bcv_journal.specs.Parts.{HasItems, disk_of, is_closed, start_at, tail_at}
 use Rattle.bcv_journal.specs.declared.fault.Noted.{Noted}
 use Rattle.bcv_journal.specs.declared.fault.Noted.TheVariants.{Done, JournalFull, DiskFault, Closed, NoMemory}
@@ -21,7 +21,7 @@ use Rattle.bcv_notes.specs.KeptBy.{AreNotes}
 use Rattle.bcv_clientlog.specs.AddedNote.{AddsAfter, AddsText, CompactTells, CompactsText, CompactsThen, IsUntried, JournalCompacts, Text, reach}
 use Rattle.bcv_clientlog.specs.Compaction.{Compacts, MovesTo}
 use Rattle.bcv_clientlog.specs.LogParts.{Holds, LoadsAs, LoadsUpTo, is_shut, log_area, log_disk, log_start, log_tail}
-use Rattle.bcv_clientlog.specs.Noting.{CompactNoteTells, LogCompacts, LogNotes, NoteLeaves, NoteTells, size_kept, spare_after}
+use Rattle.bcv_clientlog.specs.Noting.{CompactNoteTells, LogCompacts, LogNotes, LogPlans, NoteLeaves, NoteTells, size_kept, spare_after}
 use Rattle.bcv_clientlog.specs.declared.log.ClientLog.{ClientLog}
 use Rattle.bcv_clientlog.proofs.Held.{room_moved}
 use Rattle.bcv_clientlog.proofs.Adding as adding
@@ -300,3 +300,20 @@ compacted_room {D} {g} told shown old new k (Ok v) result (inr c) = by_first c.f
     by_first NoMemory j e = (⊎_elim (λ sooner. inl (omega (arith, sooner, ap tail_at e.0))) (λ free. inr (omega (arith, free, ap tail_at e.0))) j.room, (λ done. absurd (cc (done, e.1))))
     by_first JournalFull j e = absurd e
     by_first Closed j e = absurd e
+
+-- troubles that are planned
+pub planned : {D : Type 0} {g : _} (shown : D → DiskShown) (old new : ClientLog D g) (trouble : Trouble) → JournalPlans shown old.journal new.journal trouble → new.pending ≡ old.pending → LogPlans shown old new trouble
+planned shown old new trouble p same = record {
+  disk = p.disk;
+  start = p.start;
+  tail = p.tail;
+  shut = p.closed;
+  waits = same;
+  holds = λ k h. record {
+    items = h.items;
+    has = p.items h.items h.has;
+    are = h.are;
+    waits = same ∙ h.waits;
+    room = subst (λ (n : ℕ). HasRoom k n) (sym p.tail) h.room;
+  };
+}

@@ -1,4 +1,4 @@
-ghost use Rattle.std.specs.Prelude.{◌≡◌, ◌↔◌, ◌+◌, ◌<◌, ◌≤◌, ◌^◌, IsTrue, drop};
+ghost use Rattle.std.specs.Prelude.{◌≡◌, ◌↔◌, ◌+◌, ◌<◌, ◌≤◌, ◌^◌, IsTrue, drop, length};
 ghost use Rattle.bcv_model.specs.NoteRules.{HasRoom};
 ghost use Rattle.bcv_notes.specs.KeptBy.{items_of};
 ghost use Rattle.bcv_notes.specs.KeptNotes.{items_size};
@@ -22,6 +22,15 @@ const ROOM_TO_END: u64 = (1 << 31) - 65;
 pub enum LogLoad<D: Disk> {
     Ready(ClientLog<D>, Kept),
     Refused(D, JournalFault),
+}
+
+/// The place of the gate of an item in front of which so many stand, where the items end at `tail`.
+fn place_of(tail: u64, items: &[Vec<u8>], number: usize) -> u64
+    requires number { number ≤ length items.now }
+    requires within { items_size (items_of items.now) ≤ tail }
+    ensures { result + items_size (drop number (items_of items.now)) ≡ tail }
+{
+    tail - items_size(&items[number..])
 }
 
 /// Whether what is kept has the room that it needs after a tail.
@@ -50,7 +59,7 @@ impl<D: Disk> ClientLog<D> {
         let kept = match keep_all(alloc, &items) {
             Ok(Fold::Kept(kept)) => kept,
             Ok(Fold::Stops(number)) => {
-                let place = tail - items_size(&items[number..]);
+                let place = place_of(tail, &items, number);
                 return LogLoad::Refused(journal.down(), JournalFault::NotJournal(place));
             }
             Err(_) => return LogLoad::Refused(journal.down(), JournalFault::NoMemory),
