@@ -1,6 +1,7 @@
 -- What a load of a log comes to, from that of its journal.
 use Rattle.std.proofs.Common.{◌≡◌, ◌⊎◌, inl, inr, ⊎_elim, ℕ, zero, suc, ◌+◌, ◌-◌, ◌<◌, ◌≤◌, ◌^◌, Bool, true, false, List, [], ◌∷◌, ◌++◌, length, map, take, drop, Vec, Global, Option, None, Some, Result, Ok, Err, nat_le, if◌then◌else◌, is_some, refl, sym, ◌∙◌, ap, subst, arith}
 use Rattle.std.proofs.lemmas.Bool.{cases_lt, lt-leb}
+use Rattle.std.proofs.lemmas.List.{length-drop, take_all}
 use Rattle.bcv_disk.specs.Calls.{DiskFails-as, LeavesOnly-weaker}
 use Rattle.bcv_disk.specs.Crash.{LeavesOnly, Only}
 use Rattle.bcv_disk.specs.DiskCalls.{DiskFails}
@@ -18,7 +19,9 @@ use Rattle.bcv_model.specs.declared.kept.Kept.{Kept}
 use Rattle.bcv_model.specs.declared.note.Note.{Note}
 use Rattle.bcv_model.specs.NoteRules.{Folds, HasRoom, MayStand}
 use Rattle.bcv_model.specs.Notes.{after_note, note_text, nothing_kept}
-use Rattle.bcv_notes.specs.KeptBy.{AreNotes, StopsAt}
+use Rattle.bcv_notes.specs.KeptBy.{AreNotes, IsFoldOf, StopsAt}
+use Rattle.bcv_notes.specs.declared.keeping.Fold.{Fold}
+use Rattle.bcv_notes.specs.declared.keeping.Fold.TheVariants as fold
 use Rattle.bcv_notes.specs.KeptNotes.{items_size}
 use Rattle.bcv_notes.proofs.Folded.{fold_once}
 use Rattle.bcv_clientlog.specs.LogLoads.{CountsLogLoad, IsOldOrSame, LogLoads}
@@ -34,10 +37,13 @@ size_drop zero items = omega arith
 size_drop (suc n) [] = omega arith
 size_drop (suc n) (x ∷ xs) = omega (arith, size_drop n xs)
 
-pub drop_items : (n : ℕ) (vs : List (Vec ℕ Global)) → items_of (drop n vs) ≡ drop n (items_of vs)
+drop_items : (n : ℕ) (vs : List (Vec ℕ Global)) → items_of (drop n vs) ≡ drop n (items_of vs)
 drop_items zero vs = refl
 drop_items (suc n) [] = refl
 drop_items (suc n) (v ∷ vs) = drop_items n vs
+
+pub size_rest : (n : ℕ) (vs : List (Vec ℕ Global)) → items_size (items_of (take (length vs - n) (drop n vs))) ≡ items_size (drop n (items_of vs))
+size_rest n vs = ap (λ (l : List (Vec ℕ Global)). items_size (items_of l)) (take_all (length vs - n) (drop n vs) (omega (arith, length-drop n vs))) ∙ ap items_size (drop_items n vs)
 
 within : (n : ℕ) (items : List (List ℕ)) (item : List ℕ) (rest : List (List ℕ)) → drop n items ≡ item ∷ rest → n < length items
 within zero [] item rest is = absurd cc
@@ -130,22 +136,22 @@ alike : (before : DiskShown) (image : List ℕ) → IsOldOrAlike before image �
 alike before image (inl was) = inl was
 alike before image (inr same) = inr (λ k most l. record { items = l.items; tail = l.tail; ends = same.1 l.items l.tail l.ends; are = l.are; room = l.room; within = l.within })
 
-module _ {D : Type 0} {g : _} (told : DiskTold) (shown : D → DiskShown) (disk : D) where
-  same_moments : (new : D) → LeavesOnly (shown disk) (shown new) (IsOldOrAlike (shown disk)) → LeavesOnly (shown disk) (shown new) (IsOldOrSame (shown disk))
-  same_moments new run = LeavesOnly-weaker (shown disk) (shown new) (IsOldOrAlike (shown disk)) (IsOldOrSame (shown disk)) (alike (shown disk)) run
+same_moments : {D : Type 0} (shown : D → DiskShown) (disk new : D) → LeavesOnly (shown disk) (shown new) (IsOldOrAlike (shown disk)) → LeavesOnly (shown disk) (shown new) (IsOldOrSame (shown disk))
+same_moments shown disk new run = LeavesOnly-weaker (shown disk) (shown new) (IsOldOrAlike (shown disk)) (IsOldOrSame (shown disk)) (alike (shown disk)) run
 
+module _ {D : Type 0} {g : _} (told : DiskTold) (shown : D → DiskShown) (disk : D) where
   -- the journal was refused
   pub refused : (new : D) (fault : JournalFault) → JournalLoads {D = D} {g = g} told shown disk (load.Refused new fault) → LogLoads {D = D} {g = g} told shown disk (Refused new fault)
   refused new (NotJournal place) j = record {
     loaded = λ t. let l = j.loaded t in (inl l.0, l.1, l.2);
     only = λ t k most l. let both : Ok l.items ≡ Err place = Loads-once (shown disk).seen (Ok l.items) (Err place) (ends_load (shown disk).seen l.items l.tail l.ends) (j.loaded t).0 in cc both;
     is_open = tt;
-    any_moment = λ t. same_moments new (j.any_moment t);
+    any_moment = λ t. same_moments shown disk new (j.any_moment t);
     fails = j.fails;
     calls = j.calls;
   }
-  refused new DiskFault j = record { loaded = λ t. tt; only = λ t. tt; is_open = tt; any_moment = λ t. same_moments new (j.any_moment t); fails = j.fails; calls = λ t u. tt }
-  refused new NoMemory j = record { loaded = λ t. tt; only = λ t. tt; is_open = tt; any_moment = λ t. same_moments new (j.any_moment t); fails = j.fails; calls = λ t u. tt }
+  refused new DiskFault j = record { loaded = λ t. tt; only = λ t. tt; is_open = tt; any_moment = λ t. same_moments shown disk new (j.any_moment t); fails = j.fails; calls = λ t u. tt }
+  refused new NoMemory j = record { loaded = λ t. tt; only = λ t. tt; is_open = tt; any_moment = λ t. same_moments shown disk new (j.any_moment t); fails = j.fails; calls = λ t u. tt }
 
   -- the journal was read
   module _ (journal : Journal D g) (v : Vec (Vec ℕ Global) Global) (j : JournalLoads told shown disk (load.Ready journal v)) where
@@ -164,8 +170,19 @@ module _ {D : Type 0} {g : _} (told : DiskTold) (shown : D → DiskShown) (disk 
     durable : (t : told.tells) → (shown journal.disk).seen ≡ (shown disk).seen → Only (shown disk).seen (shown journal.disk).may_leave
     durable t same = subst (λ (l : List ℕ). Only l (shown journal.disk).may_leave) same (j.loaded t).1.1.durable
 
+    -- what the fold of the items said
+    module _ (vs : List (Vec ℕ Global)) (same : vs ≡ v.items) (answer : Fold) (said : IsFoldOf (items_of vs) answer) where
+      folded : IsFoldOf items answer
+      folded = subst (λ (l : List (Vec ℕ Global)). IsFoldOf (items_of l) answer) same said
+
+      pub stops : (n : ℕ) → answer ≡ fold.Stops n → StopsAt items n
+      stops n is = subst (IsFoldOf items) is folded
+
+      pub keeps : (k : Kept) → answer ≡ fold.Kept k → AreNotes items k
+      keeps k is = subst (IsFoldOf items) is folded
+
     -- an item is refused
-    pub stopped : (n place : ℕ) → StopsAt items n → place + items_size (drop n items) ≡ tail_at journal → LogLoads told shown disk (Refused journal.disk (NotJournal place))
+    pub stopped : (n place : ℕ) → StopsAt items n → place + items_size (drop n items) ≡ tail_at journal → LogLoads {D = D} {g = g} told shown disk (Refused journal.disk (NotJournal place))
     stopped n place s at = record {
       loaded = λ t.
           let ends = (j.loaded t).0 in
@@ -173,16 +190,16 @@ module _ {D : Type 0} {g : _} (told : DiskTold) (shown : D → DiskShown) (disk 
           (inr (inl (record { items = items; tail = tail_at journal; ends = ends; number = n; stops = s; is_place = at })), same, durable t same);
       only = λ t k most l. folds_or_stops items k n (its_notes (shown disk).seen items (tail_at journal) (j.loaded t).0 k most l) s;
       is_open = tt;
-      any_moment = λ t. same_moments journal.disk (j.any_moment t);
+      any_moment = λ t. same_moments shown disk journal.disk (j.any_moment t);
       fails = fails_as (λ fault. cc fault);
       calls = j.calls;
     }
 
-    pub starved : LogLoads told shown disk (Refused journal.disk NoMemory)
-    starved = record { loaded = λ t. tt; only = λ t. tt; is_open = tt; any_moment = λ t. same_moments journal.disk (j.any_moment t); fails = fails_as (λ fault. cc fault); calls = λ t u. tt }
+    pub starved : LogLoads {D = D} {g = g} told shown disk (Refused journal.disk NoMemory)
+    starved = record { loaded = λ t. tt; only = λ t. tt; is_open = tt; any_moment = λ t. same_moments shown disk journal.disk (j.any_moment t); fails = fails_as (λ fault. cc fault); calls = λ t u. tt }
 
     -- a rule on the tail is broken
-    pub crowded : (k : Kept) → AreNotes items k → (HasRoom k (tail_at journal) → ⊥) → LogLoads told shown disk (Refused journal.disk (NotJournal (tail_at journal)))
+    pub crowded : (k : Kept) → AreNotes items k → (HasRoom k (tail_at journal) → ⊥) → LogLoads {D = D} {g = g} told shown disk (Refused journal.disk (NotJournal (tail_at journal)))
     crowded k are breaks = record {
       loaded = λ t.
           let ends = (j.loaded t).0 in
@@ -193,13 +210,13 @@ module _ {D : Type 0} {g : _} (told : DiskTold) (shown : D → DiskShown) (disk 
           let same : other ≡ k = fold_once items other k (its_notes (shown disk).seen items (tail_at journal) ends other most l) are in
           breaks (subst (λ (i : Kept). HasRoom i (tail_at journal)) same (its_room (shown disk).seen items (tail_at journal) ends other most l));
       is_open = tt;
-      any_moment = λ t. same_moments journal.disk (j.any_moment t);
+      any_moment = λ t. same_moments shown disk journal.disk (j.any_moment t);
       fails = fails_as (λ fault. cc fault);
       calls = j.calls;
     }
 
     -- what was read is held
-    pub ready : (k : Kept) (log : ClientLog D g) → log.journal ≡ journal → log.pending ≡ is_some k.pending → AreNotes items k → HasRoom k (tail_at journal) → LogLoads told shown disk (Ready log k)
+    pub ready : (k : Kept) (log : ClientLog D g) → log.journal ≡ journal → log.pending ≡ is_some k.pending → AreNotes items k → HasRoom k (tail_at journal) → LogLoads {D = D} {g = g} told shown disk (Ready log k)
     ready k log same waits are room =
         let disk_same : journal.disk ≡ log_disk log = ap (λ (i : Journal D g). i.disk) (sym same) in
         record {
@@ -219,7 +236,7 @@ module _ {D : Type 0} {g : _} (told : DiskTold) (shown : D → DiskShown) (disk 
               let reached = its_reach (shown disk).seen items (tail_at journal) ends other most l in
               (fold_once items k other are (its_notes (shown disk).seen items (tail_at journal) ends other most l), omega (arith, ap tail_at same, ap start_at same, area_is shown journal items (j.loaded t).1, reached));
           is_open = ap is_closed same ∙ j.is_open.0;
-          any_moment = λ t. subst (λ (d : D). LeavesOnly (shown disk) (shown d) (IsOldOrSame (shown disk))) disk_same (same_moments journal.disk (j.any_moment t));
+          any_moment = λ t. subst (λ (d : D). LeavesOnly (shown disk) (shown d) (IsOldOrSame (shown disk))) disk_same (same_moments shown disk journal.disk (j.any_moment t));
           fails = subst (λ (d : D). DiskFails told (shown disk) (shown d) ⊥) disk_same (fails_as (λ fault. fault));
           calls = λ t u. ap (λ (d : D). (shown d).trouble.calls) (sym disk_same) ∙ j.calls t u;
         }

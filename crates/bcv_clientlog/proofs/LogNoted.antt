@@ -1,7 +1,10 @@
 -- What the calls of a log come to, from those of its journal.
-use Rattle.std.proofs.Common.{◌≡◌, ◌≢◌, ◌⊎◌, inl, inr, ⊎_elim, ℕ, ◌+◌, ◌-◌, ◌*◌, ◌<◌, ◌≤◌, ◌^◌, Bool, true, false, List, [], ◌∷◌, ◌++◌, length, Vec, Global, Ok, Err, IfOk, is_some, refl, sym, ◌∙◌, ap, subst, arith}
+use Rattle.std.proofs.Common.{◌≡◌, ◌≢◌, ◌⊎◌, inl, inr, ⊎_elim, ℕ, ◌+◌, ◌-◌, ◌*◌, ◌<◌, ◌≤◌, ◌^◌, Bool, true, false, List, [], ◌∷◌, ◌++◌, length, Vec, Global, Ok, Err, IfOk, is_some, refl, sym, ◌∙◌, ap, subst, arith, length-append}
 use Rattle.std.specs.Prelude.{IsSome}
 use Rattle.std.proofs.lemmas.Bool.{cases_Bool, cases_lt}
+use Rattle.std.specs.Int.{w64, to_be_bytes}
+use Rattle.bcv_base.specs.declared.id.Id16.{Id16}
+use Rattle.bcv_base.specs.Ids.{IsId}
 use Rattle.bcv_disk.specs.Calls.{DiskFails-as, DiskFails-none, DiskFails-then, LeavesOnly-then, LeavesOnly-weaker}
 use Rattle.bcv_disk.specs.Crash.{LeavesOnly}
 use Rattle.bcv_disk.specs.DiskCalls.{DiskFails}
@@ -15,6 +18,7 @@ use Rattle.bcv_journal.specs.declared.fault.Noted.TheVariants.{Done, JournalFull
 use Rattle.bcv_journal.specs.declared.journal.Journal.{Journal}
 use Rattle.bcv_model.specs.declared.kept.Kept.{Kept}
 use Rattle.bcv_model.specs.declared.note.Note.{Note}
+use Rattle.bcv_model.specs.declared.note.Note.TheVariants as note
 use Rattle.bcv_model.specs.NoteRules.{HasRoom, MayStand}
 use Rattle.bcv_model.specs.Notes.{after_note, note_size, note_text}
 use Rattle.bcv_notes.specs.KeptBy.{AreNotes}
@@ -317,3 +321,19 @@ planned shown old new trouble p same = record {
     room = subst (λ (n : ℕ). HasRoom k n) (sym p.tail) h.room;
   };
 }
+
+-- a short text always has room where the end of a publication has
+
+pub never_full : {D : Type 0} {g : _} (told : DiskTold) (shown : D → DiskShown) (old new : Journal D g) (text : Text) (result : Noted) → AddsText told shown old new text 0 result → IfOk text (λ v. length v.items ≤ 58) → tail_at old + 65 ≤ 2 ^ 31 → result ≢ JournalFull
+never_full told shown old new (Ok v) result a brief free full = omega (arith, (a.full.0 full).1, brief, free)
+never_full told shown old new (Err e) result u brief free full = ⊎_elim (λ closed. cc (full, closed.0)) (λ none. cc (full, none.0)) u.1
+
+brief_text : (text : Text) (bytes : List ℕ) → length bytes ≤ 58 → IfOk text (λ v. v.items ≡ bytes) → IfOk text (λ v. length v.items ≤ 58)
+brief_text (Ok v) bytes brief is = omega (arith, ap length is, brief)
+brief_text (Err e) bytes brief is = tt
+
+pub brief_done : (text : Text) (id : Id16) (number : ℕ) → IsId id → IfOk text (λ v. v.items ≡ note_text (note.Done id number)) → IfOk text (λ v. length v.items ≤ 58)
+brief_done text id number is_id is = brief_text text (note_text (note.Done id number)) (omega (arith, is_id.len, length-append id.0 (to_be_bytes w64 number))) is
+
+pub brief_void : (text : Text) (id : Id16) → IsId id → IfOk text (λ v. v.items ≡ note_text (note.Void id)) → IfOk text (λ v. length v.items ≤ 58)
+brief_void text id is_id is = brief_text text (note_text (note.Void id)) (omega (arith, is_id.len)) is

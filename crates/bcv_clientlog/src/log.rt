@@ -80,6 +80,7 @@ impl<D: Disk> ClientLog<D> {
         ensures notes { LogNotes D.told D.shown self.old self.new (Done id.now number) result }
         ensures fits { result ≢ Noted.JournalFull }
     {
+        let _ = id.bytes();
         let noted = add(alloc, &mut self.journal, done_note(alloc, id, number), 0);
         if noted == Noted::Done {
             self.pending = false;
@@ -93,6 +94,7 @@ impl<D: Disk> ClientLog<D> {
         ensures notes { LogNotes D.told D.shown self.old self.new (Void id.now) result }
         ensures fits { result ≢ Noted.JournalFull }
     {
+        let _ = id.bytes();
         let noted = add(alloc, &mut self.journal, void_note(alloc, id), 0);
         if noted == Noted::Done {
             self.pending = false;
