@@ -10,3 +10,4 @@ pub mod Uploads
 pub mod KeptSizes
 mod WellKept
 pub mod Refolded
+pub mod KeptGrowth

@@ -54,10 +54,10 @@ SameName l (m ∷ []) = kept_name m ≡ kept_name l
 SameName l (m ∷ (n ∷ ls)) = ⊥
 
 module _ (change : Local → List Local) (db : List ℕ) where
-  here : (x : Local) (xs : List Local) → bytes_eq (kept_name x) db ≡ true → replaced_local change db (x ∷ xs) ≡ change x ++ xs
+  pub here : (x : Local) (xs : List Local) → bytes_eq (kept_name x) db ≡ true → replaced_local change db (x ∷ xs) ≡ change x ++ xs
   here x xs e = ap (λ (b : Bool). cond b (change x ++ xs) (x ∷ replaced_local change db xs)) e
 
-  there : (x : Local) (xs : List Local) → bytes_eq (kept_name x) db ≡ false → replaced_local change db (x ∷ xs) ≡ x ∷ replaced_local change db xs
+  pub there : (x : Local) (xs : List Local) → bytes_eq (kept_name x) db ≡ false → replaced_local change db (x ∷ xs) ≡ x ∷ replaced_local change db xs
   there x xs e = ap (λ (b : Bool). cond b (change x ++ xs) (x ∷ replaced_local change db xs)) e
 
   all_replaced : (P : Local → Type 0) (ls : List Local) (l : Local) → keyed kept_name db ls ≡ Some l → AllByRecursion P ls → AllByRecursion P (change l) → AllByRecursion P (replaced_local change db ls)
@@ -99,7 +99,7 @@ abbrev pub grown : Commit → Local → Local
 grown c l = record l { commits = l.commits ++ c ∷ [] }
 
 module _ (db : List ℕ) (c : Commit) where
-  abbrev grows : Local → List Local
+  abbrev pub grows : Local → List Local
   grows l = grown c l ∷ []
 
   grown_here : (ls : List Local) (l : Local) → keyed kept_name db ls ≡ Some l → keyed kept_name db (with_local_commit db c ls) ≡ Some (grown c l)

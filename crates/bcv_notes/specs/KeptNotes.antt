@@ -1,5 +1,5 @@
 -- The fewest notes that come to what is kept: those that a client's log is written anew with.
-use Rattle.std.specs.Prelude.{◌≡◌, ℕ, ◌+◌, List, [], ◌∷◌, ◌++◌, length, map, Option, Some, None}
+use Rattle.std.specs.Prelude.{◌≡◌, ℕ, ◌+◌, ◌≤◌, List, [], ◌∷◌, ◌++◌, length, map, Option, Some, None}
 use Rattle.std.specs.List.{flat_map}
 use Rattle.bcv_base.specs.declared.id.Id16.{Id16}
 use Rattle.bcv_model.specs.declared.ask.Commit.{Commit}
@@ -7,9 +7,9 @@ use Rattle.bcv_model.specs.declared.kept.Kept.{Kept}
 use Rattle.bcv_model.specs.declared.kept.Local.{Local}
 use Rattle.bcv_model.specs.declared.kept.PendingPub.{PendingPub}
 use Rattle.bcv_model.specs.declared.note.Note.{Note}
-use Rattle.bcv_model.specs.declared.note.Note.TheVariants.{Me, First, Committed, Intent}
-use Rattle.bcv_model.specs.NoteRules.{Folds}
-use Rattle.bcv_model.specs.Notes.{note_size, note_text, nothing_kept}
+use Rattle.bcv_model.specs.declared.note.Note.TheVariants.{Me, First, Committed, Intent, Done, Void, Revert}
+use Rattle.bcv_model.specs.NoteRules.{Folds, MayStand}
+use Rattle.bcv_model.specs.Notes.{after_note, note_size, note_text, nothing_kept}
 use Rattle.bcv_notes.specs.KeptBy.{AreNotes}
 
 -- the notes of further commits of a database
@@ -48,6 +48,16 @@ abbrev pub notes_size : List Note → ℕ
 notes_size [] = 0
 notes_size (x ∷ xs) = 5 + note_size x + notes_size xs
 
+-- the note stays among the fewest, until a publication ends or commits are given up
+abbrev pub Stays : Note → Type 0
+Stays (Me id) = ⊥
+Stays (First entry number block c) = Unit {0}
+Stays (Committed db c) = Unit {0}
+Stays (Intent p) = Unit {0}
+Stays (Done id number) = ⊥
+Stays (Void id) = ⊥
+Stays (Revert db) = ⊥
+
 -- ---- laws
 
 -- what a log comes to, its fewest notes come to again
@@ -57,3 +67,7 @@ KeptAgain = (items : List (List ℕ)) (k : Kept) → AreNotes items k → Folds 
 -- notes that fold take as many bytes as their sizes say
 abbrev pub SizesAdd : Type 0
 SizesAdd = (k end : Kept) (xs : List Note) → Folds k xs end → items_size (map note_text xs) ≡ notes_size xs
+
+-- a note that stays makes the fewest notes longer by itself at least
+abbrev pub SizeGrows : Type 0
+SizeGrows = (k : Kept) (x : Note) → MayStand k x → Stays x → notes_size (kept_notes k) + 5 + note_size x ≤ notes_size (kept_notes (after_note k x))

@@ -2,7 +2,7 @@
 
 ghost use Rattle.bcv_model.specs.NoteRules.{SizesAgree, TextsDiffer};
 ghost use Rattle.bcv_notes.specs.KeptBy.{FoldsOnce};
-ghost use Rattle.bcv_notes.specs.KeptNotes.{KeptAgain, SizesAdd};
+ghost use Rattle.bcv_notes.specs.KeptNotes.{KeptAgain, SizeGrows, SizesAdd};
 
 /// Shows that a note which may stand has as many bytes as its size says.
 pub fn sizes_agree()
@@ -27,4 +27,9 @@ pub fn kept_again()
 /// Shows how many bytes the notes of a log take.
 pub fn sizes_add()
     ensures { SizesAdd }
+{}
+
+/// Shows that a note which stays makes the fewest notes longer by itself at least.
+pub fn size_grows()
+    ensures { SizeGrows }
 {}

@@ -20,7 +20,9 @@ mod writing;
 pub use folding::after_note;
 pub use keeping::{Fold, keep_all, nothing_kept};
 pub use kept_notes::{kept_items, kept_size};
-pub use laws::{folds_once, kept_again, sizes_add, sizes_agree, texts_differ};
+pub use laws::{
+    folds_once, kept_again, size_grows, sizes_add, sizes_agree, texts_differ,
+};
 pub use reading::read_note;
 pub use writing::{
     committed_note, done_note, first_note, intent_note, me_note, revert_note, void_note,
