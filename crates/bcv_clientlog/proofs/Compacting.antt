@@ -20,7 +20,7 @@ use Rattle.bcv_model.specs.NoteRules.{HasRoom}
 use Rattle.bcv_model.specs.Notes.{note_text}
 use Rattle.bcv_notes.specs.KeptBy.{AreNotes}
 use Rattle.bcv_notes.specs.KeptNotes.{items_size, kept_notes, notes_size}
-use Rattle.bcv_clientlog.specs.AddedNote.{CompactTells, JournalCompacts, reach}
+use Rattle.bcv_clientlog.specs.AddedNote.{CompactTells, IsDenseWhere, JournalCompacts, reach}
 use Rattle.bcv_clientlog.specs.Compaction.{Compacts, MovesTo}
 use Rattle.bcv_clientlog.specs.LogParts.{LoadsAs}
 use Rattle.bcv_clientlog.proofs.Held.{area_is, area_size, at_rest, fewest, fewest_size, items_fit, room_moved, texts_some}
@@ -45,7 +45,7 @@ place_of size start tail = ⊎_elim
     (λ lt. inr (lt, ap (λ (b : Bool). if b then 17 else tail + 1) (lt-leb (18 + size) start lt)))
     (λ ge. inl (ge, ap (λ (b : Bool). if b then 17 else tail + 1) (le-leb (18 + size) start ge))) (cases_lt start (18 + size))
 
-module _ {D : Type 0} {g : _} (told : DiskTold) (shown : D → DiskShown) (old : Journal D g) (k : Kept) (more : ℕ) (is_open : is_closed old ≡ false) (order : start_at old ≤ tail_at old) (low : 17 ≤ start_at old) (short : tail_at old < 2 ^ 31)
+module _ {D : Type 0} {g : _} (told : DiskTold) (shown : D → DiskShown) (old : Journal D g) (k : Kept) (dense : Bool) (more : ℕ) (is_open : is_closed old ≡ false) (order : start_at old ≤ tail_at old) (low : 17 ≤ start_at old) (short : tail_at old < 2 ^ 31)
     (leaves : (items : List (List ℕ)) → HasItems shown old items → LeavesItems (shown (disk_of old)) items (tail_at old)) where
   abbrev kept_size : ℕ
   kept_size = notes_size (kept_notes k)
@@ -59,7 +59,7 @@ module _ {D : Type 0} {g : _} (told : DiskTold) (shown : D → DiskShown) (old :
       LeavesOnly-started (shown (disk_of old)) (λ image. LoadsAs image k (reach old)) (λ image left. at_rest shown old items has k are room (leaves items has) image (only_now t image left))
 
   -- nothing is to do; or the items are not as long as was reckoned, which the notes of a log never are
-  pub unmoved : Only_now → ((items : List (List ℕ)) → AreNotes items k → Compacts (start_at old) (tail_at old) kept_size more → ⊥) → JournalCompacts told shown old old k more noted.Done
+  pub unmoved : Only_now → ((items : List (List ℕ)) → AreNotes items k → IsDenseWhere dense old k → Compacts (start_at old) (tail_at old) kept_size more → ⊥) → JournalCompacts told shown old old k dense more noted.Done
   unmoved only_now none = record {
     not_closed = λ closed. cc closed;
     not_full = λ full. cc full;
@@ -67,18 +67,19 @@ module _ {D : Type 0} {g : _} (told : DiskTold) (shown : D → DiskShown) (old :
     shuts = ((λ shut. absurd (cc (shut, is_open))), (λ fault. absurd (cc fault)));
     room = inl (omega arith);
     within = omega arith;
-    tells = λ t items has are named room. record {
+    stays = λ other. (refl, refl);
+    tells = λ t items has are named room thick. record {
       any_moment = at_start only_now t items has are room;
       items = items;
       are = are;
       has = λ why. has;
       calls = 4;
-      moves = λ done. inr (none items are, refl, refl, refl);
+      moves = λ done. inr (none items are thick, refl, refl, refl);
       counts = λ u done. refl;
     };
   }
 
-  pub starved : Only_now → JournalCompacts told shown old old k more noted.NoMemory
+  pub starved : Only_now → JournalCompacts told shown old old k dense more noted.NoMemory
   starved only_now = record {
     not_closed = λ closed. cc closed;
     not_full = λ full. cc full;
@@ -86,7 +87,8 @@ module _ {D : Type 0} {g : _} (told : DiskTold) (shown : D → DiskShown) (old :
     shuts = ((λ shut. absurd (cc (shut, is_open))), (λ fault. absurd (cc fault)));
     room = inl (omega arith);
     within = omega arith;
-    tells = λ t items has are named room. record {
+    stays = λ other. (refl, refl);
+    tells = λ t items has are named room thick. record {
       any_moment = at_start only_now t items has are room;
       items = items;
       are = are;
@@ -194,7 +196,7 @@ module _ {D : Type 0} {g : _} (told : DiskTold) (shown : D → DiskShown) (old :
         tells noted.JournalFull r = absurd (r.never_full refl)
         tells noted.Closed r = absurd (cc (r.closed.0 refl, is_open))
 
-      pub restarted : (result : Noted) → Restarts result → JournalCompacts told shown old new k more result
+      pub restarted : (result : Noted) → Restarts result → JournalCompacts told shown old new k dense more result
       restarted result r = record {
         not_closed = λ closed. cc (r.closed.0 closed, is_open);
         not_full = r.never_full;
@@ -202,7 +204,8 @@ module _ {D : Type 0} {g : _} (told : DiskTold) (shown : D → DiskShown) (old :
         shuts = ((λ shut. ⊎_elim (λ was. absurd (cc (was, is_open))) (λ fault. fault) (r.shuts.0 shut)), (λ fault. r.shuts.1 (inr fault)));
         room = new_room result r;
         within = new_reach result r;
-        tells = λ t items has are named room. tells t items has are named room result r;
+        stays = λ other. (r.start_stays other, r.tail_stays other);
+        tells = λ t items has are named room thick. tells t items has are named room result r;
       }
 
 -- ---- what a restart requires

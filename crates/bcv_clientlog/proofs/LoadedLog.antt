@@ -216,8 +216,8 @@ module _ {D : Type 0} {g : _} (told : DiskTold) (shown : D → DiskShown) (disk 
     }
 
     -- what was read is held
-    pub ready : (k : Kept) (log : ClientLog D g) → log.journal ≡ journal → log.pending ≡ is_some k.pending → AreNotes items k → HasRoom k (tail_at journal) → LogLoads {D = D} {g = g} told shown disk (Ready log k)
-    ready k log same waits are room =
+    pub ready : (k : Kept) (log : ClientLog D g) → log.journal ≡ journal → log.pending ≡ is_some k.pending → log.dense ≡ false → AreNotes items k → HasRoom k (tail_at journal) → LogLoads {D = D} {g = g} told shown disk (Ready log k)
+    ready k log same waits thin are room =
         let disk_same : journal.disk ≡ log_disk log = ap (λ (i : Journal D g). i.disk) (sym same) in
         record {
           loaded = λ t.
@@ -229,6 +229,7 @@ module _ {D : Type 0} {g : _} (told : DiskTold) (shown : D → DiskShown) (disk 
                   are = are;
                   waits = waits;
                   room = subst (λ (i : Journal D g). HasRoom k (tail_at i)) (sym same) room;
+                  dense = λ is. absurd (cc (is, thin));
                 },
               );
           only = λ t other most l.

@@ -22,10 +22,12 @@ use Rattle.bcv_model.specs.declared.note.Note.TheVariants as note
 use Rattle.bcv_model.specs.NoteRules.{HasRoom, MayStand}
 use Rattle.bcv_model.specs.Notes.{after_note, note_size, note_text}
 use Rattle.bcv_notes.specs.KeptBy.{AreNotes}
-use Rattle.bcv_clientlog.specs.AddedNote.{AddsAfter, AddsText, CompactTells, CompactsText, CompactsThen, IsUntried, JournalCompacts, Text, reach}
+use Rattle.bcv_notes.specs.KeptNotes.{Stays}
+use Rattle.bcv_notes.proofs.KeptGrowth.{size_grows}
+use Rattle.bcv_clientlog.specs.AddedNote.{AddsAfter, AddsText, CompactTells, CompactsText, CompactsThen, IsDenseWhere, IsUntried, JournalCompacts, Text, reach}
 use Rattle.bcv_clientlog.specs.Compaction.{Compacts, MovesTo}
-use Rattle.bcv_clientlog.specs.LogParts.{Holds, LoadsAs, LoadsUpTo, is_shut, log_area, log_disk, log_start, log_tail}
-use Rattle.bcv_clientlog.specs.Noting.{CompactNoteTells, LogCompacts, LogNotes, LogPlans, NoteLeaves, NoteTells, size_kept, spare_after}
+use Rattle.bcv_clientlog.specs.LogParts.{Holds, LoadsAs, LoadsUpTo, is_shut, log_area, log_disk, log_start, log_tail, size_kept}
+use Rattle.bcv_clientlog.specs.Noting.{CompactNoteTells, LogCompacts, LogNotes, LogPlans, NoteLeaves, NoteTells, spare_after}
 use Rattle.bcv_clientlog.specs.declared.log.ClientLog.{ClientLog}
 use Rattle.bcv_clientlog.proofs.Held.{room_moved}
 use Rattle.bcv_clientlog.proofs.Adding as adding
@@ -63,6 +65,10 @@ short_area start tail size more begin end calls (inr m) free = ⊎_elim
     (λ brief. omega (arith, brief, m.1, m.2)) (cases_lt 65536 (tail - start))
 
 module _ {D : Type 0} {g : _} (told : DiskTold) (shown : D → DiskShown) (only_now : OnlyNow told shown) (old new : ClientLog D g) (x : Note) (result : Noted) (waits : result ≡ Done → new.pending ≡ waits_by x old.pending) (still : result ≢ Done → new.pending ≡ old.pending) where
+  -- where it is known to be dense, it was so, and the note stays
+  abbrev IsThick : Kept → Type 0
+  IsThick k = new.dense ≡ true → (log_area old < 2 * (size_kept k + 1)) × Stays x
+
   -- ---- nothing was tried
 
   untried_leaves : IsUntried old.journal new.journal result → NoteLeaves told shown old new result
@@ -80,8 +86,8 @@ module _ {D : Type 0} {g : _} (told : DiskTold) (shown : D → DiskShown) (only_
   not_full_none : IsUntried old.journal new.journal result → result ≢ JournalFull
   not_full_none u full = ⊎_elim (λ closed. cc (full, closed.0)) (λ none. cc (full, none.0)) u.1
 
-  untried_tells : IsUntried old.journal new.journal result → (t : told.tells) (k : Kept) (h : Holds shown old k) (begin end calls : ℕ) → NoteTells told shown old new x result k begin end calls
-  untried_tells u t k h begin end calls =
+  untried_tells : IsUntried old.journal new.journal result → (t : told.tells) (k : Kept) (h : Holds shown old k) → IsThick k → (begin end calls : ℕ) → NoteTells told shown old new x result k begin end calls
+  untried_tells u t k h thick begin end calls =
       let not_done = not_done_none u in
       record {
         any_moment = subst (λ (j : Journal D g). LeavesOnly (shown (log_disk old)) (shown (disk_of j)) (LoadsUpTo k (reach old.journal) (x ∷ []))) (sym u.0)
@@ -94,6 +100,7 @@ module _ {D : Type 0} {g : _} (told : DiskTold) (shown : D → DiskShown) (only_
           are = h.are;
           waits = still not_done ∙ h.waits;
           room = subst (λ (j : Journal D g). HasRoom k (tail_at j)) (sym u.0) h.room;
+          dense = λ is. omega (arith, (thick is).0, ap tail_at u.0, ap start_at u.0);
         };
         starts = λ done. absurd (not_done done);
         ends = λ done. absurd (not_done done);
@@ -106,7 +113,7 @@ module _ {D : Type 0} {g : _} (told : DiskTold) (shown : D → DiskShown) (only_
 
   -- ---- a note after the others
 
-  module _ (bytes : List ℕ) (bytes_is : bytes ≡ note_text x) where
+  module _ (bytes : List ℕ) (bytes_is : bytes ≡ note_text x) (thin : new.dense ≡ false) where
     added_leaves : JournalAppends told shown old.journal new.journal bytes (spare_after x) result → NoteLeaves told shown old new result
     added_leaves a = record { closed = a.closed; shuts = a.shuts; stays = λ closed. a.refused (inl closed); fails = a.fails }
 
@@ -122,6 +129,7 @@ module _ {D : Type 0} {g : _} (told : DiskTold) (shown : D → DiskShown) (only_
             are = adding.more_are told shown only_now t old.journal k h.items h.has h.are h.room new.journal x may bytes bytes_is result a;
             waits = waits done ∙ ap (waits_by x) h.waits ∙ sym (after_waits k x may);
             room = adding.room_done told shown only_now t old.journal k h.items h.has h.are h.room new.journal x may bytes bytes_is result a done;
+            dense = λ is. absurd (cc (is, thin));
           };
           kept = λ why.
               let not_done : result ≢ Done = λ done. ⊎_elim (λ none. cc (done, none)) (λ full. cc (done, full)) why in
@@ -131,6 +139,7 @@ module _ {D : Type 0} {g : _} (told : DiskTold) (shown : D → DiskShown) (only_
                 are = h.are;
                 waits = still not_done ∙ h.waits;
                 room = adding.room_kept told shown only_now t old.journal k h.items h.has h.are h.room new.journal x may bytes bytes_is result a not_done;
+                dense = λ is. absurd (cc (is, thin));
               };
           starts = λ done. a.start;
           ends = λ done. omega (arith, a.tail done, size);
@@ -143,137 +152,157 @@ module _ {D : Type 0} {g : _} (told : DiskTold) (shown : D → DiskShown) (only_
           counts = λ v done. a.calls v done;
         }
 
-  pub notes : (text : Text) → IfOk text (λ v. v.items ≡ note_text x) → AddsText told shown old.journal new.journal text (spare_after x) result → LogNotes told shown old new x result
-  notes (Ok v) is a = record { leaves = added_leaves v.items is a; tells = λ t k h may. added_tells v.items is a t k h may }
-  notes (Err e) is u = record { leaves = untried_leaves u; tells = λ t k h may. untried_tells u t k h (log_start old) (log_tail old) 4 }
+  pub notes : new.dense ≡ false → (text : Text) → IfOk text (λ v. v.items ≡ note_text x) → AddsText told shown old.journal new.journal text (spare_after x) result → LogNotes told shown old new x result
+  notes thin (Ok v) is a = record { leaves = added_leaves v.items is thin a; tells = λ t k h may. added_tells v.items is thin a t k h may }
+  notes thin (Err e) is u = record { leaves = untried_leaves u; tells = λ t k h may. untried_tells u t k h (λ thick. absurd (cc (thick, thin))) (log_start old) (log_tail old) 4 }
 
   -- ---- a note after a compaction
 
-  untried_compacts : (k : Kept) → IsUntried old.journal new.journal result → LogCompacts told shown old new k x result
-  untried_compacts k u = record {
-    leaves = untried_leaves u;
-    tells = λ t h may.
-        let m = moves (log_start old) (log_tail old) (size_kept k) (note_size x) in
-        record { begin = m.0; end = m.1; calls = m.2; moves = m.3; tells = untried_tells u t k h m.0 m.1 m.2; area = λ done. absurd (not_done_none u done) };
-  }
+  -- whether the log was known to be dense then, and is now
+  module _ (k : Kept) (known : Bool) (why : known ≡ true → (old.dense ≡ true) ⊎ (log_area old < 2 * (size_kept k + 1))) (keeps : new.dense ≡ true → (known ≡ true) × Stays x) where
+    dense_where : Holds shown old k → IsDenseWhere known old.journal k
+    dense_where h is = ⊎_elim (λ was. h.dense was) (λ now. now) (why is)
 
-  module _ (k : Kept) (bytes : List ℕ) (bytes_is : bytes ≡ note_text x) (named : MayStand k x → IsSome k.me) (is_open : is_closed old.journal ≡ false) (mid : Journal D g) where
-    abbrev before : (image : List ℕ) → Type 0
-    before image = LoadsAs image k (reach old.journal)
+    thick_where : Holds shown old k → IsThick k
+    thick_where h is = (dense_where h (keeps is).0, (keeps is).1)
 
-    -- the compaction ended the call
-    stopped : (first : Noted) → first ≢ Done → JournalCompacts told shown old.journal mid k (length bytes) first → new.journal ≡ mid → result ≡ first → LogCompacts told shown old new k x result
-    stopped first not_done c same ended =
-        let other : result ≢ Done = λ done. not_done (sym ended ∙ done) in
-        record {
-          leaves = record {
-            closed = ((λ closed. absurd (c.not_closed (sym ended ∙ closed))), (λ shut. absurd (cc (shut, is_open))));
-            shuts = ((λ shut. inr (ended ∙ c.shuts.0 (ap is_closed (sym same) ∙ shut))), (λ why. ⊎_elim (λ shut. absurd (cc (shut, is_open))) (λ fault. ap is_closed same ∙ c.shuts.1 (sym ended ∙ fault)) why));
-            stays = λ closed. absurd (c.not_closed (sym ended ∙ closed));
-            fails = subst (λ (j : Journal D g). DiskFails told (shown (log_disk old)) (shown (disk_of j)) (result ≡ DiskFault)) (sym same)
-                (DiskFails-as told (shown (log_disk old)) (shown (disk_of mid)) (λ fault. sym ended ∙ fault) (λ fault. ended ∙ fault) c.fails);
-          };
-          tells = λ t h may.
-              let m = moves (log_start old) (log_tail old) (size_kept k) (note_size x) in
-              let ct = c.tells t h.items h.has h.are (named may) h.room in
-              record {
-                begin = m.0;
-                end = m.1;
-                calls = m.2;
-                moves = m.3;
-                tells = record {
-                  any_moment = subst (λ (j : Journal D g). LeavesOnly (shown (log_disk old)) (shown (disk_of j)) (LoadsUpTo k (reach old.journal) (x ∷ []))) (sym same)
-                      (LeavesOnly-weaker (shown (log_disk old)) (shown (disk_of mid)) before (LoadsUpTo k (reach old.journal) (x ∷ [])) (λ image l. inl l) ct.any_moment);
-                  done = λ done. absurd (other done);
-                  kept = λ why. record {
-                    items = ct.items;
-                    has = subst (λ (j : Journal D g). HasItems shown j ct.items) (sym same) (ct.has (⊎_elim (λ none. inr (sym ended ∙ none)) (λ full. absurd (c.not_full (sym ended ∙ full))) why));
-                    are = ct.are;
-                    waits = still other ∙ h.waits;
-                    room = subst (λ (j : Journal D g). HasRoom k (tail_at j)) (sym same) (room_moved k (log_tail old) (tail_at mid) (named may) h.room c.room);
+    -- a dense log does not move
+    unmoved : (h : Holds shown old k) (more begin end calls : ℕ) → known ≡ true → MovesTo (log_start old) (log_tail old) (size_kept k) more begin end calls → (begin ≡ log_start old) × (end ≡ log_tail old)
+    unmoved h more begin end calls is (inl m) = absurd (omega (arith, m.0.halves, dense_where h is))
+    unmoved h more begin end calls is (inr m) = (m.1, m.2)
+
+    untried_compacts : IsUntried old.journal new.journal result → LogCompacts told shown old new k x result
+    untried_compacts u = record {
+      leaves = untried_leaves u;
+      tells = λ t h may.
+          let m = moves (log_start old) (log_tail old) (size_kept k) (note_size x) in
+          record { begin = m.0; end = m.1; calls = m.2; moves = m.3; tells = untried_tells u t k h (thick_where h) m.0 m.1 m.2; area = λ done. absurd (not_done_none u done) };
+    }
+
+    module _ (bytes : List ℕ) (bytes_is : bytes ≡ note_text x) (named : MayStand k x → IsSome k.me) (is_open : is_closed old.journal ≡ false) (mid : Journal D g) where
+      abbrev before : (image : List ℕ) → Type 0
+      before image = LoadsAs image k (reach old.journal)
+
+      -- the compaction ended the call
+      stopped : (first : Noted) → first ≢ Done → JournalCompacts told shown old.journal mid k known (length bytes) first → new.journal ≡ mid → result ≡ first → LogCompacts told shown old new k x result
+      stopped first not_done c same ended =
+          let other : result ≢ Done = λ done. not_done (sym ended ∙ done) in
+          record {
+            leaves = record {
+              closed = ((λ closed. absurd (c.not_closed (sym ended ∙ closed))), (λ shut. absurd (cc (shut, is_open))));
+              shuts = ((λ shut. inr (ended ∙ c.shuts.0 (ap is_closed (sym same) ∙ shut))), (λ why. ⊎_elim (λ shut. absurd (cc (shut, is_open))) (λ fault. ap is_closed same ∙ c.shuts.1 (sym ended ∙ fault)) why));
+              stays = λ closed. absurd (c.not_closed (sym ended ∙ closed));
+              fails = subst (λ (j : Journal D g). DiskFails told (shown (log_disk old)) (shown (disk_of j)) (result ≡ DiskFault)) (sym same)
+                  (DiskFails-as told (shown (log_disk old)) (shown (disk_of mid)) (λ fault. sym ended ∙ fault) (λ fault. ended ∙ fault) c.fails);
+            };
+            tells = λ t h may.
+                let m = moves (log_start old) (log_tail old) (size_kept k) (note_size x) in
+                let ct = c.tells t h.items h.has h.are (named may) h.room (dense_where h) in
+                record {
+                  begin = m.0;
+                  end = m.1;
+                  calls = m.2;
+                  moves = m.3;
+                  tells = record {
+                    any_moment = subst (λ (j : Journal D g). LeavesOnly (shown (log_disk old)) (shown (disk_of j)) (LoadsUpTo k (reach old.journal) (x ∷ []))) (sym same)
+                        (LeavesOnly-weaker (shown (log_disk old)) (shown (disk_of mid)) before (LoadsUpTo k (reach old.journal) (x ∷ [])) (λ image l. inl l) ct.any_moment);
+                    done = λ done. absurd (other done);
+                    kept = λ why. record {
+                      items = ct.items;
+                      has = subst (λ (j : Journal D g). HasItems shown j ct.items) (sym same) (ct.has (⊎_elim (λ none. inr (sym ended ∙ none)) (λ full. absurd (c.not_full (sym ended ∙ full))) why));
+                      are = ct.are;
+                      waits = still other ∙ h.waits;
+                      room = subst (λ (j : Journal D g). HasRoom k (tail_at j)) (sym same) (room_moved k (log_tail old) (tail_at mid) (named may) h.room c.room);
+                      dense = λ is. omega (arith, (thick_where h is).0, ap tail_at same, ap start_at same, (c.stays not_done).0, (c.stays not_done).1);
+                    };
+                    starts = λ done. absurd (other done);
+                    ends = λ done. absurd (other done);
+                    fits = λ done. absurd (other done);
+                    full = λ full. absurd (c.not_full (sym ended ∙ full));
+                    within = omega (arith, ap reach same, c.within);
+                    unnoted = λ why. omega (arith, ap reach same, c.within);
+                    counts = λ v done. absurd (other done);
                   };
-                  starts = λ done. absurd (other done);
-                  ends = λ done. absurd (other done);
-                  fits = λ done. absurd (other done);
-                  full = λ full. absurd (c.not_full (sym ended ∙ full));
-                  within = omega (arith, ap reach same, c.within);
-                  unnoted = λ why. omega (arith, ap reach same, c.within);
-                  counts = λ v done. absurd (other done);
+                  area = λ done. absurd (other done);
                 };
-                area = λ done. absurd (other done);
-              };
-        }
+          }
 
-    -- the note was tried after it
-    went : JournalCompacts told shown old.journal mid k (length bytes) Done → JournalAppends told shown mid new.journal bytes (spare_after x) result → LogCompacts told shown old new k x result
-    went c a =
-        let shut_mid : is_closed mid ≡ true → ⊥ = λ shut. cc (c.shuts.0 shut) in
-        record {
-          leaves = record {
-            closed = ((λ closed. absurd (shut_mid (a.closed.0 closed))), (λ shut. absurd (cc (shut, is_open))));
-            shuts = ((λ shut. ⊎_elim (λ was. absurd (shut_mid was)) (λ fault. inr fault) (a.shuts.0 shut)), (λ why. ⊎_elim (λ shut. absurd (cc (shut, is_open))) (λ fault. a.shuts.1 (inr fault)) why));
-            stays = λ closed. absurd (shut_mid (a.closed.0 closed));
-            fails = DiskFails-then told (shown (log_disk old)) (shown (disk_of mid)) (shown (log_disk new)) (λ fault. absurd (cc fault)) c.fails a.fails;
-          };
-          tells = λ t h may.
-              let ct = c.tells t h.items h.has h.are (named may) h.room in
-              let room : HasRoom k (tail_at mid) = room_moved k (log_tail old) (tail_at mid) (named may) h.room c.room in
-              let has = ct.has (inl refl) in
-              let size : length bytes ≡ note_size x = adding.size told shown only_now t mid k ct.items has ct.are room new.journal x may bytes bytes_is result a in
-              let moved : MovesTo (log_start old) (log_tail old) (size_kept k) (note_size x) (start_at mid) (tail_at mid) ct.calls =
-              subst (λ (n : ℕ). MovesTo (log_start old) (log_tail old) (size_kept k) n (start_at mid) (tail_at mid) ct.calls) size (ct.moves refl) in
-              record {
-                begin = start_at mid;
-                end = tail_at mid;
-                calls = ct.calls;
-                moves = moved;
-                tells = record {
-                  any_moment = LeavesOnly-then (shown (log_disk old)) (shown (disk_of mid)) (shown (log_disk new)) (LoadsUpTo k (reach old.journal) (x ∷ []))
-                      (LeavesOnly-weaker (shown (log_disk old)) (shown (disk_of mid)) before (LoadsUpTo k (reach old.journal) (x ∷ [])) (λ image l. inl l) ct.any_moment)
-                      (adding.any_moment told shown only_now t mid k ct.items has ct.are room new.journal x may bytes bytes_is result a (reach old.journal) c.within);
-                  done = λ done. record {
-                    items = ct.items ++ bytes ∷ [];
-                    has = (a.items t ct.items has).done done;
-                    are = adding.more_are told shown only_now t mid k ct.items has ct.are room new.journal x may bytes bytes_is result a;
-                    waits = waits done ∙ ap (waits_by x) h.waits ∙ sym (after_waits k x may);
-                    room = adding.room_done told shown only_now t mid k ct.items has ct.are room new.journal x may bytes bytes_is result a done;
+      -- the note was tried after it
+      went : JournalCompacts told shown old.journal mid k known (length bytes) Done → JournalAppends told shown mid new.journal bytes (spare_after x) result → LogCompacts told shown old new k x result
+      went c a =
+          let shut_mid : is_closed mid ≡ true → ⊥ = λ shut. cc (c.shuts.0 shut) in
+          record {
+            leaves = record {
+              closed = ((λ closed. absurd (shut_mid (a.closed.0 closed))), (λ shut. absurd (cc (shut, is_open))));
+              shuts = ((λ shut. ⊎_elim (λ was. absurd (shut_mid was)) (λ fault. inr fault) (a.shuts.0 shut)), (λ why. ⊎_elim (λ shut. absurd (cc (shut, is_open))) (λ fault. a.shuts.1 (inr fault)) why));
+              stays = λ closed. absurd (shut_mid (a.closed.0 closed));
+              fails = DiskFails-then told (shown (log_disk old)) (shown (disk_of mid)) (shown (log_disk new)) (λ fault. absurd (cc fault)) c.fails a.fails;
+            };
+            tells = λ t h may.
+                let ct = c.tells t h.items h.has h.are (named may) h.room (dense_where h) in
+                let room : HasRoom k (tail_at mid) = room_moved k (log_tail old) (tail_at mid) (named may) h.room c.room in
+                let has = ct.has (inl refl) in
+                let size : length bytes ≡ note_size x = adding.size told shown only_now t mid k ct.items has ct.are room new.journal x may bytes bytes_is result a in
+                let moved : MovesTo (log_start old) (log_tail old) (size_kept k) (note_size x) (start_at mid) (tail_at mid) ct.calls =
+                subst (λ (n : ℕ). MovesTo (log_start old) (log_tail old) (size_kept k) n (start_at mid) (tail_at mid) ct.calls) size (ct.moves refl) in
+                record {
+                  begin = start_at mid;
+                  end = tail_at mid;
+                  calls = ct.calls;
+                  moves = moved;
+                  tells = record {
+                    any_moment = LeavesOnly-then (shown (log_disk old)) (shown (disk_of mid)) (shown (log_disk new)) (LoadsUpTo k (reach old.journal) (x ∷ []))
+                        (LeavesOnly-weaker (shown (log_disk old)) (shown (disk_of mid)) before (LoadsUpTo k (reach old.journal) (x ∷ [])) (λ image l. inl l) ct.any_moment)
+                        (adding.any_moment told shown only_now t mid k ct.items has ct.are room new.journal x may bytes bytes_is result a (reach old.journal) c.within);
+                    done = λ done. record {
+                      items = ct.items ++ bytes ∷ [];
+                      has = (a.items t ct.items has).done done;
+                      are = adding.more_are told shown only_now t mid k ct.items has ct.are room new.journal x may bytes bytes_is result a;
+                      waits = waits done ∙ ap (waits_by x) h.waits ∙ sym (after_waits k x may);
+                      room = adding.room_done told shown only_now t mid k ct.items has ct.are room new.journal x may bytes bytes_is result a done;
+                      dense = λ is.
+                          let place = unmoved h (note_size x) (start_at mid) (tail_at mid) ct.calls (keeps is).0 moved in
+                          omega (arith, (thick_where h is).0, place.0, place.1, a.tail done, a.start, size, size_grows k x may (keeps is).1);
+                    };
+                    kept = λ why.
+                        let not_done : result ≢ Done = λ done. ⊎_elim (λ none. cc (done, none)) (λ full. cc (done, full)) why in
+                        record {
+                          items = ct.items;
+                          has = (a.items t ct.items has).kept why;
+                          are = ct.are;
+                          waits = still not_done ∙ h.waits;
+                          room = adding.room_kept told shown only_now t mid k ct.items has ct.are room new.journal x may bytes bytes_is result a not_done;
+                        dense = λ is.
+                            let place = unmoved h (note_size x) (start_at mid) (tail_at mid) ct.calls (keeps is).0 moved in
+                            omega (arith, (thick_where h is).0, place.0, place.1, a.tail_stays not_done, a.start);
+                        };
+                    starts = λ done. a.start;
+                    ends = λ done. omega (arith, a.tail done, size);
+                    fits = λ done. adding.fits told shown only_now t mid k ct.items has ct.are room new.journal x may bytes bytes_is result a (λ full. cc (done, full));
+                    full = λ full. omega (arith, (a.full.0 full).1, size);
+                    within = ⊎_elim
+                        (λ done. let le = adding.reach_done told shown only_now t mid k ct.items has ct.are room new.journal x may bytes bytes_is result a done in omega (arith, le, c.within))
+                        (λ other. let le = adding.reach_kept told shown only_now t mid k ct.items has ct.are room new.journal x may bytes bytes_is result a other in omega (arith, le, c.within)) (done_or_not result);
+                    unnoted = λ other. let le = adding.reach_kept told shown only_now t mid k ct.items has ct.are room new.journal x may bytes bytes_is result a other in omega (arith, le, c.within);
+                    counts = λ v done. a.calls v done ∙ ct.counts v refl;
                   };
-                  kept = λ why.
-                      let not_done : result ≢ Done = λ done. ⊎_elim (λ none. cc (done, none)) (λ full. cc (done, full)) why in
-                      record {
-                        items = ct.items;
-                        has = (a.items t ct.items has).kept why;
-                        are = ct.are;
-                        waits = still not_done ∙ h.waits;
-                        room = adding.room_kept told shown only_now t mid k ct.items has ct.are room new.journal x may bytes bytes_is result a not_done;
-                      };
-                  starts = λ done. a.start;
-                  ends = λ done. omega (arith, a.tail done, size);
-                  fits = λ done. adding.fits told shown only_now t mid k ct.items has ct.are room new.journal x may bytes bytes_is result a (λ full. cc (done, full));
-                  full = λ full. omega (arith, (a.full.0 full).1, size);
-                  within = ⊎_elim
-                      (λ done. let le = adding.reach_done told shown only_now t mid k ct.items has ct.are room new.journal x may bytes bytes_is result a done in omega (arith, le, c.within))
-                      (λ other. let le = adding.reach_kept told shown only_now t mid k ct.items has ct.are room new.journal x may bytes bytes_is result a other in omega (arith, le, c.within)) (done_or_not result);
-                  unnoted = λ other. let le = adding.reach_kept told shown only_now t mid k ct.items has ct.are room new.journal x may bytes bytes_is result a other in omega (arith, le, c.within);
-                  counts = λ v done. a.calls v done ∙ ct.counts v refl;
+                  area = λ done free.
+                      let least = short_area (log_start old) (log_tail old) (size_kept k) (note_size x) (start_at mid) (tail_at mid) ct.calls moved free in
+                      omega (arith, least, a.tail done, a.start, size);
                 };
-                area = λ done free.
-                    let least = short_area (log_start old) (log_tail old) (size_kept k) (note_size x) (start_at mid) (tail_at mid) ct.calls moved free in
-                    omega (arith, least, a.tail done, a.start, size);
-              };
-        }
+          }
 
-    then_compacts : spare_after x ≡ 64 → (first : Noted) → JournalCompacts told shown old.journal mid k (length bytes) first → AddsAfter told shown mid new.journal bytes first result → LogCompacts told shown old new k x result
-    then_compacts spare Done c a = went c (subst (λ (n : ℕ). JournalAppends told shown mid new.journal bytes n result) (sym spare) a)
-    then_compacts spare DiskFault c e = stopped DiskFault (λ done. cc done) c e.0 e.1
-    then_compacts spare NoMemory c e = stopped NoMemory (λ done. cc done) c e.0 e.1
-    then_compacts spare JournalFull c e = absurd e
-    then_compacts spare Closed c e = absurd e
+      then_compacts : spare_after x ≡ 64 → (first : Noted) → JournalCompacts told shown old.journal mid k known (length bytes) first → AddsAfter told shown mid new.journal bytes first result → LogCompacts told shown old new k x result
+      then_compacts spare Done c a = went c (subst (λ (n : ℕ). JournalAppends told shown mid new.journal bytes n result) (sym spare) a)
+      then_compacts spare DiskFault c e = stopped DiskFault (λ done. cc done) c e.0 e.1
+      then_compacts spare NoMemory c e = stopped NoMemory (λ done. cc done) c e.0 e.1
+      then_compacts spare JournalFull c e = absurd e
+      then_compacts spare Closed c e = absurd e
 
-  pub compacts : (k : Kept) (text : Text) → IfOk text (λ v. v.items ≡ note_text x) → (MayStand k x → IsSome k.me) → spare_after x ≡ 64 → CompactsText told shown old.journal new.journal k text result → LogCompacts told shown old new k x result
-  compacts k (Ok v) is named spare (inl u) = untried_compacts k u
-  compacts k (Ok v) is named spare (inr c) = then_compacts k v.items is named c.is_open c.mid spare c.first c.compacted c.added
-  compacts k (Err e) is named spare u = untried_compacts k u
+    pub compacts : (text : Text) → IfOk text (λ v. v.items ≡ note_text x) → (MayStand k x → IsSome k.me) → spare_after x ≡ 64 → CompactsText told shown old.journal new.journal k known text result → LogCompacts told shown old new k x result
+    compacts (Ok v) is named spare (inl u) = untried_compacts u
+    compacts (Ok v) is named spare (inr c) = then_compacts v.items is named c.is_open c.mid spare c.first c.compacted c.added
+    compacts (Err e) is named spare u = untried_compacts u
 
 -- ---- the room for the end of a publication, whatever the disk
 
@@ -288,13 +317,13 @@ module _ {D : Type 0} {g : _} (told : DiskTold) (shown : D → DiskShown) (old n
   added_room (Ok v) spare a = append_room v.items spare a
   added_room (Err e) spare u = ((λ other. ap tail_at u.0), (λ done. absurd (⊎_elim (λ closed. cc (done, closed.0)) (λ none. cc (done, none.0)) u.1)))
 
-pub compacted_room : {D : Type 0} {g : _} (told : DiskTold) (shown : D → DiskShown) (old new : Journal D g) (k : Kept) (text : Text) (result : Noted) → CompactsText told shown old new k text result
+pub compacted_room : {D : Type 0} {g : _} (told : DiskTold) (shown : D → DiskShown) (old new : Journal D g) (k : Kept) (dense : Bool) (text : Text) (result : Noted) → CompactsText told shown old new k dense text result
     → ((tail_at new ≤ tail_at old) ⊎ (tail_at new + 65 ≤ 2 ^ 31)) × (result ≡ Done → tail_at new + 65 ≤ 2 ^ 31)
-compacted_room {D} {g} told shown old new k (Ok v) result (inl u) = (inl (omega (arith, ap tail_at u.0)), (λ done. absurd (⊎_elim (λ closed. cc (done, closed.0)) (λ none. cc (done, none.0)) u.1)))
-compacted_room {D} {g} told shown old new k (Err e) result u = (inl (omega (arith, ap tail_at u.0)), (λ done. absurd (⊎_elim (λ closed. cc (done, closed.0)) (λ none. cc (done, none.0)) u.1)))
-compacted_room {D} {g} told shown old new k (Ok v) result (inr c) = by_first c.first c.compacted c.added
+compacted_room {D} {g} told shown old new k dense (Ok v) result (inl u) = (inl (omega (arith, ap tail_at u.0)), (λ done. absurd (⊎_elim (λ closed. cc (done, closed.0)) (λ none. cc (done, none.0)) u.1)))
+compacted_room {D} {g} told shown old new k dense (Err e) result u = (inl (omega (arith, ap tail_at u.0)), (λ done. absurd (⊎_elim (λ closed. cc (done, closed.0)) (λ none. cc (done, none.0)) u.1)))
+compacted_room {D} {g} told shown old new k dense (Ok v) result (inr c) = by_first c.first c.compacted c.added
   where
-    by_first : (first : Noted) → JournalCompacts told shown old c.mid k (length v.items) first → AddsAfter told shown c.mid new v.items first result → ((tail_at new ≤ tail_at old) ⊎ (tail_at new + 65 ≤ 2 ^ 31)) × (result ≡ Done → tail_at new + 65 ≤ 2 ^ 31)
+    by_first : (first : Noted) → JournalCompacts told shown old c.mid k dense (length v.items) first → AddsAfter told shown c.mid new v.items first result → ((tail_at new ≤ tail_at old) ⊎ (tail_at new + 65 ≤ 2 ^ 31)) × (result ≡ Done → tail_at new + 65 ≤ 2 ^ 31)
     by_first Done j a =
         let room = append_room told shown c.mid new result v.items 64 a in (
           ⊎_elim (λ done. inr (omega (arith, room.1 done))) (λ other. ⊎_elim (λ sooner. inl (omega (arith, sooner, room.0 other))) (λ free. inr (omega (arith, free, room.0 other))) j.room) (done_or_not result),
@@ -306,8 +335,8 @@ compacted_room {D} {g} told shown old new k (Ok v) result (inr c) = by_first c.f
     by_first Closed j e = absurd e
 
 -- troubles that are planned
-pub planned : {D : Type 0} {g : _} (shown : D → DiskShown) (old new : ClientLog D g) (trouble : Trouble) → JournalPlans shown old.journal new.journal trouble → new.pending ≡ old.pending → LogPlans shown old new trouble
-planned shown old new trouble p same = record {
+pub planned : {D : Type 0} {g : _} (shown : D → DiskShown) (old new : ClientLog D g) (trouble : Trouble) → JournalPlans shown old.journal new.journal trouble → new.pending ≡ old.pending → new.dense ≡ old.dense → LogPlans shown old new trouble
+planned shown old new trouble p same thick = record {
   disk = p.disk;
   start = p.start;
   tail = p.tail;
@@ -319,6 +348,7 @@ planned shown old new trouble p same = record {
     are = h.are;
     waits = same ∙ h.waits;
     room = subst (λ (n : ℕ). HasRoom k n) (sym p.tail) h.room;
+    dense = λ is. omega (arith, h.dense (sym thick ∙ is), p.tail, p.start);
   };
 }
 

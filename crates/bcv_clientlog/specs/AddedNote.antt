@@ -1,5 +1,5 @@
 -- What the private calls of a log promise of its journal.
-use Rattle.std.specs.Prelude.{◌≡◌, ◌≢◌, ◌⊎◌, ◌↔◌, ℕ, ◌+◌, ◌-◌, ◌^◌, ◌≤◌, true, false, List, Result, Ok, Err, IsSome, Vec, length}
+use Rattle.std.specs.Prelude.{◌≡◌, ◌≢◌, ◌⊎◌, ◌↔◌, ℕ, ◌+◌, ◌-◌, ◌*◌, ◌^◌, ◌<◌, ◌≤◌, Bool, true, false, List, Result, Ok, Err, IsSome, Vec, length}
 use Rattle.std.specs.declared.alloc.Global.{Global}
 use Rattle.std.specs.declared.alloc.AllocError.{AllocError}
 use Rattle.bcv_disk.specs.Crash.{LeavesOnly}
@@ -46,15 +46,20 @@ pub record CompactTells {D : Type 0} {g : _} (told : DiskTold) (shown : D → Di
   -- four calls more make so many in all
   pub counts : told.troubled → result ≡ Done → counted (shown (disk_of new)).trouble.calls 4 ≡ counted (shown (disk_of old)).trouble.calls calls
 
--- a compaction before a text of so many bytes, where there is one: Done in each case
-pub record JournalCompacts {D : Type 0} {g : _} (told : DiskTold) (shown : D → DiskShown) (old new : Journal D g) (k : Kept) (more : ℕ) (result : Noted) : Type 0 where
+-- where it is known, more than half of the items' bytes stays
+abbrev pub IsDenseWhere : {D : Type 0} {g : _} → Bool → Journal D g → Kept → Type 0
+IsDenseWhere known journal k = known ≡ true → tail_at journal - start_at journal < 2 * (notes_size (kept_notes k) + 1)
+
+-- a compaction before a text of so many bytes, where there is one: Done in each case; none is known to be due where it is dense
+pub record JournalCompacts {D : Type 0} {g : _} (told : DiskTold) (shown : D → DiskShown) (old new : Journal D g) (k : Kept) (dense : Bool) (more : ℕ) (result : Noted) : Type 0 where
   pub not_closed : result ≢ Closed
   pub not_full : result ≢ JournalFull
   pub fails : DiskFails told (shown (disk_of old)) (shown (disk_of new)) (result ≡ DiskFault)
   pub shuts : (is_closed new ≡ true) ↔ (result ≡ DiskFault)
   pub room : (tail_at new ≤ tail_at old) ⊎ (tail_at new + 65 ≤ 2 ^ 31)
   pub within : reach new ≤ reach old
-  pub tells : told.tells → (items : List (List ℕ)) → HasItems shown old items → AreNotes items k → IsSome k.me → HasRoom k (tail_at old) → CompactTells told shown old new k more result
+  pub stays : result ≢ Done → (start_at new ≡ start_at old) × (tail_at new ≡ tail_at old)
+  pub tells : told.tells → (items : List (List ℕ)) → HasItems shown old items → AreNotes items k → IsSome k.me → HasRoom k (tail_at old) → IsDenseWhere dense old k → CompactTells told shown old new k more result
 
 -- after a compaction that ended so the text is added, or not
 abbrev pub AddsAfter : {D : Type 0} {g : _} → DiskTold → (D → DiskShown) → Journal D g → Journal D g → List ℕ → Noted → Noted → Type 0
@@ -65,14 +70,14 @@ AddsAfter told shown mid new bytes JournalFull result = ⊥
 AddsAfter told shown mid new bytes Closed result = ⊥
 
 -- a compaction, and then the text
-pub record CompactsThen {D : Type 0} {g : _} (told : DiskTold) (shown : D → DiskShown) (old new : Journal D g) (k : Kept) (bytes : List ℕ) (result : Noted) : Type 0 where
+pub record CompactsThen {D : Type 0} {g : _} (told : DiskTold) (shown : D → DiskShown) (old new : Journal D g) (k : Kept) (dense : Bool) (bytes : List ℕ) (result : Noted) : Type 0 where
   pub is_open : is_closed old ≡ false
   pub mid : Journal D g
   pub first : Noted
-  pub compacted : JournalCompacts told shown old mid k (length bytes) first
+  pub compacted : JournalCompacts told shown old mid k dense (length bytes) first
   pub added : AddsAfter told shown mid new bytes first result
 
 -- a text is added, after a compaction
-abbrev pub CompactsText : {D : Type 0} {g : _} → DiskTold → (D → DiskShown) → Journal D g → Journal D g → Kept → Text → Noted → Type 0
-CompactsText told shown old new k (Ok v) result = IsUntried old new result ⊎ CompactsThen told shown old new k v.items result
-CompactsText told shown old new k (Err e) result = IsUntried old new result
+abbrev pub CompactsText : {D : Type 0} {g : _} → DiskTold → (D → DiskShown) → Journal D g → Journal D g → Kept → Bool → Text → Noted → Type 0
+CompactsText told shown old new k dense (Ok v) result = IsUntried old new result ⊎ CompactsThen told shown old new k dense v.items result
+CompactsText told shown old new k dense (Err e) result = IsUntried old new result

@@ -1,5 +1,5 @@
 -- What a client's log is made of, and what it holds.
-use Rattle.std.specs.Prelude.{◌≡◌, ◌⊎◌, ℕ, ◌+◌, ◌-◌, ◌*◌, ◌≤◌, Bool, List, [], ◌∷◌, is_some}
+use Rattle.std.specs.Prelude.{◌≡◌, ◌⊎◌, ℕ, ◌+◌, ◌-◌, ◌*◌, ◌<◌, ◌≤◌, Bool, true, List, [], ◌∷◌, is_some}
 use Rattle.bcv_disk.specs.DiskShown.{DiskShown}
 use Rattle.bcv_journal.specs.Layout.{EndsAt}
 use Rattle.bcv_journal.specs.Parts.{HasItems, disk_of, is_closed, start_at, tail_at}
@@ -8,7 +8,7 @@ use Rattle.bcv_model.specs.declared.note.Note.{Note}
 use Rattle.bcv_model.specs.NoteRules.{HasRoom}
 use Rattle.bcv_model.specs.Notes.{after_note, note_size}
 use Rattle.bcv_notes.specs.KeptBy.{AreNotes}
-use Rattle.bcv_notes.specs.KeptNotes.{items_size}
+use Rattle.bcv_notes.specs.KeptNotes.{items_size, kept_notes, notes_size}
 use Rattle.bcv_clientlog.specs.declared.log.ClientLog.{ClientLog}
 
 -- the disk that it stands on
@@ -35,6 +35,14 @@ is_shut log = is_closed log.journal
 abbrev pub is_waiting : {D : Type 0} {g : _} → ClientLog D g → Bool
 is_waiting log = log.pending
 
+-- it is long, and more than half of it stays, as far as it was looked into
+abbrev pub is_dense : {D : Type 0} {g : _} → ClientLog D g → Bool
+is_dense log = log.dense
+
+-- the bytes that the fewest notes take which come to this
+abbrev pub size_kept : Kept → ℕ
+size_kept k = notes_size (kept_notes k)
+
 -- the bytes load as notes that come to this, the rules on the tail hold, and the tail and the notes' bytes together are no more than this
 pub record LoadsAs (bytes : List ℕ) (k : Kept) (most : ℕ) : Type 0 where
   pub items : List (List ℕ)
@@ -56,3 +64,4 @@ pub record Holds {D : Type 0} {g : _} (shown : D → DiskShown) (log : ClientLog
   pub are : AreNotes items k
   pub waits : is_waiting log ≡ is_some k.pending
   pub room : HasRoom k (log_tail log)
+  pub dense : is_dense log ≡ true → log_area log < 2 * (size_kept k + 1)

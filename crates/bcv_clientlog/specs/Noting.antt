@@ -11,10 +11,9 @@ use Rattle.bcv_model.specs.declared.note.Note.{Note}
 use Rattle.bcv_model.specs.declared.note.Note.TheVariants as note
 use Rattle.bcv_model.specs.Notes.{after_note, note_size}
 use Rattle.bcv_model.specs.NoteRules.{MayStand}
-use Rattle.bcv_notes.specs.KeptNotes.{kept_notes, notes_size}
 use Rattle.bcv_clientlog.specs.declared.log.ClientLog.{ClientLog}
 use Rattle.bcv_clientlog.specs.Compaction.{MovesTo}
-use Rattle.bcv_clientlog.specs.LogParts.{Holds, LoadsUpTo, is_shut, is_waiting, log_area, log_disk, log_start, log_tail}
+use Rattle.bcv_clientlog.specs.LogParts.{Holds, LoadsUpTo, is_shut, is_waiting, log_area, log_disk, log_start, log_tail, size_kept}
 
 -- how many bytes stay free after a note, so that a publication which began can end
 abbrev pub spare_after : Note → ℕ
@@ -53,10 +52,6 @@ pub record NoteTells {D : Type 0} {g : _} (told : DiskTold) (shown : D → DiskS
 pub record LogNotes {D : Type 0} {g : _} (told : DiskTold) (shown : D → DiskShown) (old new : ClientLog D g) (x : Note) (result : Noted) : Type 0 where
   pub leaves : NoteLeaves told shown old new result
   pub tells : told.tells → (k : Kept) → Holds shown old k → MayStand k x → NoteTells told shown old new x result k (log_start old) (log_tail old) 4
-
--- the bytes that the fewest notes take which come to this
-abbrev pub size_kept : Kept → ℕ
-size_kept k = notes_size (kept_notes k)
 
 -- what a note does that goes after the fewest notes which come to what is kept, where these take the others' place first
 pub record CompactNoteTells {D : Type 0} {g : _} (told : DiskTold) (shown : D → DiskShown) (old new : ClientLog D g) (k : Kept) (x : Note) (result : Noted) : Type 0 where

@@ -1,8 +1,8 @@
 // A log that is mostly dead is written anew.
-ghost use Rattle.std.specs.Prelude.{◌≡◌, ◌↔◌, ◌<◌, ◌≤◌, ◌-◌, ◌^◌, IsTrue, false, min};
-ghost use Rattle.bcv_journal.specs.Parts.{is_closed};
+ghost use Rattle.std.specs.Prelude.{◌≡◌, ◌⊎◌, ◌↔◌, ◌<◌, ◌≤◌, ◌+◌, ◌-◌, ◌*◌, ◌^◌, IsTrue, true, false, min};
+ghost use Rattle.bcv_journal.specs.Parts.{is_closed, start_at, tail_at};
 ghost use Rattle.bcv_notes.specs.KeptBy.{items_of};
-ghost use Rattle.bcv_notes.specs.KeptNotes.{items_size};
+ghost use Rattle.bcv_notes.specs.KeptNotes.{items_size, kept_notes, notes_size};
 ghost use Rattle.bcv_clientlog.specs.AddedNote.{JournalCompacts};
 ghost use Rattle.bcv_clientlog.specs.Compaction.{Compacts};
 
@@ -42,18 +42,36 @@ pub fn items_size(items: &[Vec<u8>]) -> u64
     size
 }
 
-/// Writes a log anew, as the fewest notes that come to what is kept, where that frees more than half of a long one.
-/// `more` is the length of the note to come, in bytes. It is `Done` where nothing is to do, too.
+/// Whether a log is long and more than half of it stays, where that is known or shows now. So it remains while only notes
+/// are added that stay.
+pub fn is_dense<D: Disk>(journal: &Journal<D>, kept: &Kept, known: bool) -> bool
+    ensures { IsTrue result → (known ≡ true) ⊎ (tail_at journal.now - start_at journal.now < 2 * (notes_size (kept_notes kept.now) + 1)) }
+{
+    if known {
+        return true;
+    }
+    let (start, tail) = journal.span();
+    let area = tail - start;
+    area > FREE && area / 2 <= kept_size(kept)
+}
+
+/// Writes a log anew, as the fewest notes that come to what is kept, where that frees more than half of a long one,
+/// which it never does where the log is `dense`. `more` is the length of the note to come, in bytes. It is `Done` where
+/// nothing is to do, too.
 pub fn compact<D: Disk>(
     alloc: Global,
     journal: &mut Journal<D>,
     kept: &Kept,
+    dense: bool,
     more: u64,
 ) -> Noted
     requires { is_closed journal.old ≡ false }
-    ensures { JournalCompacts D.told D.shown journal.old journal.new kept.now more result }
+    ensures { JournalCompacts D.told D.shown journal.old journal.new kept.now dense more result }
 {
     let (start, tail) = journal.span();
+    if dense {
+        return Noted::Done;
+    }
     if !frees(start, tail, kept_size(kept), more) {
         return Noted::Done;
     }

@@ -68,6 +68,11 @@ impl<D: Disk> ClientLog<D> {
             return LogLoad::Refused(journal.down(), JournalFault::NotJournal(tail));
         }
         let pending = kept.pending.is_some();
-        LogLoad::Ready(ClientLog { journal, pending }, kept)
+        let log = ClientLog {
+            journal,
+            pending,
+            dense: false,
+        };
+        LogLoad::Ready(log, kept)
     }
 }

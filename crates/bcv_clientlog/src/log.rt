@@ -2,6 +2,7 @@ ghost use Rattle.std.specs.Prelude.{◌≡◌, ◌≢◌, ◌<◌, ◌≤◌, �
 ghost use Rattle.bcv_journal.specs.Parts.{tail_at};
 ghost use Rattle.bcv_model.specs.declared.note.Note.TheVariants.{Me, First, Committed, Intent, Done, Void, Revert};
 
+use crate::compaction::is_dense;
 use crate::noting::{SPARE, add, add_compactly};
 use bcv_base::{DbEntry, DbName, Id16};
 use bcv_disk::{Disk, Planned};
@@ -21,6 +22,8 @@ pub struct ClientLog<D: Disk> {
     pub(crate) journal: Journal<D>,
     // Whether a publication is pending.
     pub(crate) pending: bool,
+    // Whether it is long and more than half of it stays, as far as it was looked into.
+    pub(crate) dense: bool,
     ghost room: { pending ≡ true → tail_at journal + 65 ≤ 2 ^ 31 },
 }
 
@@ -33,6 +36,7 @@ impl<D: Disk> ClientLog<D> {
     pub fn me(&mut self, alloc: Global, id: &Id16) -> Noted
         ensures { LogNotes D.told D.shown self.old self.new (Me id.now) result }
     {
+        self.dense = false;
         add(alloc, &mut self.journal, me_note(alloc, id), SPARE)
     }
 
@@ -50,8 +54,9 @@ impl<D: Disk> ClientLog<D> {
         requires few { length commit.now.pages < 2 ^ 32 }
         ensures { LogCompacts D.told D.shown self.old self.new kept.now (First entry.now number block commit.now) result }
     {
+        self.dense = is_dense(&self.journal, kept, self.dense);
         let text = first_note(alloc, entry, number, block, commit);
-        add_compactly(alloc, &mut self.journal, kept, text)
+        add_compactly(alloc, &mut self.journal, kept, self.dense, text)
     }
 
     /// Notes one more commit of a database. `kept` is what is kept before it.
@@ -59,7 +64,9 @@ impl<D: Disk> ClientLog<D> {
         requires few { length commit.now.pages < 2 ^ 32 }
         ensures { LogCompacts D.told D.shown self.old self.new kept.now (Committed db.now commit.now) result }
     {
-        add_compactly(alloc, &mut self.journal, kept, committed_note(alloc, db, commit))
+        self.dense = is_dense(&self.journal, kept, self.dense);
+        let text = committed_note(alloc, db, commit);
+        add_compactly(alloc, &mut self.journal, kept, self.dense, text)
     }
 
     /// Notes a publication that is about to be tried. It is pending from then on. `kept` is what is kept before it.
@@ -67,7 +74,9 @@ impl<D: Disk> ClientLog<D> {
         ensures notes { LogCompacts D.told D.shown self.old self.new kept.now (Intent pending.now) result }
         ensures waits { result ≡ Noted.Done → is_waiting self.new ≡ true }
     {
-        let noted = add_compactly(alloc, &mut self.journal, kept, intent_note(alloc, pending));
+        self.dense = is_dense(&self.journal, kept, self.dense);
+        let text = intent_note(alloc, pending);
+        let noted = add_compactly(alloc, &mut self.journal, kept, self.dense, text);
         if noted == Noted::Done {
             self.pending = true;
         }
@@ -81,6 +90,7 @@ impl<D: Disk> ClientLog<D> {
         ensures fits { result ≢ Noted.JournalFull }
     {
         let _ = id.bytes();
+        self.dense = false;
         let noted = add(alloc, &mut self.journal, done_note(alloc, id, number), 0);
         if noted == Noted::Done {
             self.pending = false;
@@ -95,6 +105,7 @@ impl<D: Disk> ClientLog<D> {
         ensures fits { result ≢ Noted.JournalFull }
     {
         let _ = id.bytes();
+        self.dense = false;
         let noted = add(alloc, &mut self.journal, void_note(alloc, id), 0);
         if noted == Noted::Done {
             self.pending = false;
@@ -106,7 +117,9 @@ impl<D: Disk> ClientLog<D> {
     pub fn revert(&mut self, alloc: Global, kept: &Kept, db: &DbName) -> Noted
         ensures { LogCompacts D.told D.shown self.old self.new kept.now (Revert db.now) result }
     {
-        add_compactly(alloc, &mut self.journal, kept, revert_note(alloc, db))
+        let dense = is_dense(&self.journal, kept, self.dense);
+        self.dense = false;
+        add_compactly(alloc, &mut self.journal, kept, dense, revert_note(alloc, db))
     }
 
     /// Whether a call has met a fault of the disk.
@@ -125,6 +138,7 @@ impl<D: Disk> ClientLog<D> {
         let ClientLog {
             journal,
             pending: _,
+            dense: _,
         } = self;
         let _ = journal.span();
         journal.down()

@@ -28,15 +28,17 @@ pub fn add<D: Disk>(
     }
 }
 
-/// Adds a text, where there was memory for it, after a compaction where there is one.
+/// Adds a text, where there was memory for it, after a compaction where there is one; there is none where the log is
+/// `dense`.
 pub fn add_compactly<D: Disk>(
     alloc: Global,
     journal: &mut Journal<D>,
     kept: &Kept,
+    dense: bool,
     text: Result<Vec<u8>, AllocError>,
 ) -> Noted
     requires some { IfOk text (λ v. 0 < length v.items) }
-    ensures { CompactsText D.told D.shown journal.old journal.new kept.now text result }
+    ensures { CompactsText D.told D.shown journal.old journal.new kept.now dense text result }
 {
     let bytes = match text {
         Ok(bytes) => bytes,
@@ -45,7 +47,7 @@ pub fn add_compactly<D: Disk>(
     if journal.closed() {
         return Noted::Closed;
     }
-    match compact(alloc, journal, kept, bytes.len() as u64) {
+    match compact(alloc, journal, kept, dense, bytes.len() as u64) {
         Noted::Done => journal.append(alloc, &bytes, SPARE),
         Noted::DiskFault => Noted::DiskFault,
         Noted::NoMemory => Noted::NoMemory,

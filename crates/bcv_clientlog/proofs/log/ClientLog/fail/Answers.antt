@@ -3,4 +3,4 @@ use Rattle.bcv_clientlog.proofs.LogNoted.{planned}
 use Rattle.bcv_clientlog.proofs.log.ClientLog.fail.Goals as goal
 
 pub returns : goal.returns
-returns g c = planned g.D.Disk.shown c.args.self.now _ _ c.fail.ensures refl
+returns g c = planned g.D.Disk.shown c.args.self.now _ _ c.fail.ensures refl refl

@@ -47,4 +47,4 @@ returns g c =
     let j = c.in-Ready.journal in
     let k = c.in-Ok-Kept.kept in
     let are = keeps d.told d.shown c.args.disk j c.in-Ready.items c.in-Ready.ensures c.deref.result.now c.deref.ensures.value c.in-Ok-Kept.field-0 c.in-Ok-Kept.ensures k c.in-Ok-Kept.field-0-is in
-    ready d.told d.shown c.args.disk j c.in-Ready.items c.in-Ready.ensures k _ refl (search rules) are (search rules)
+    ready d.told d.shown c.args.disk j c.in-Ready.items c.in-Ready.ensures k _ refl (search rules) refl are (search rules)

@@ -7,12 +7,12 @@ use Rattle.bcv_clientlog.proofs.log.ClientLog.void.Goals as goal
 pub returns-then-eq-clause-notes : goal.returns-then-eq-clause-notes
 returns-then-eq-clause-notes g c =
     let done : c.add-noted.result ≡ noted.Done = (search rules) in
-    notes g.D.Disk.told g.D.Disk.shown g.met.D.Disk.only_now c.args.self.now _ (Void c.args.id.now) c.add-noted.result (λ was. refl) (λ other. absurd (other done))  c.void_note.result c.void_note.ensures  c.add-noted.ensures
+    notes g.D.Disk.told g.D.Disk.shown g.met.D.Disk.only_now c.args.self.now _ (Void c.args.id.now) c.add-noted.result (λ was. refl) (λ other. absurd (other done)) refl c.void_note.result c.void_note.ensures c.add-noted.ensures
 
 pub returns-else-eq-clause-notes : goal.returns-else-eq-clause-notes
 returns-else-eq-clause-notes g c =
     let not_done : c.add-noted.result ≢ noted.Done = (search rules) in
-    notes g.D.Disk.told g.D.Disk.shown g.met.D.Disk.only_now c.args.self.now _ (Void c.args.id.now) c.add-noted.result (λ done. absurd (not_done done)) (λ other. refl)  c.void_note.result c.void_note.ensures  c.add-noted.ensures
+    notes g.D.Disk.told g.D.Disk.shown g.met.D.Disk.only_now c.args.self.now _ (Void c.args.id.now) c.add-noted.result (λ done. absurd (not_done done)) (λ other. refl) refl c.void_note.result c.void_note.ensures c.add-noted.ensures
 
 pub returns-else-eq-clause-fits : goal.returns-else-eq-clause-fits
 returns-else-eq-clause-fits g c =
