@@ -64,6 +64,15 @@ short_area start tail size more begin end calls (inr m) free = ⊎_elim
     (λ halves. absurd (m.0 (record { long = long; halves = halves; fits = inr free }))) (cases_lt (tail - start) (2 * (size + 1))))
     (λ brief. omega (arith, brief, m.1, m.2)) (cases_lt 65536 (tail - start))
 
+-- ---- the room after a text, whatever the disk
+
+module _ {D : Type 0} {g : _} (told : DiskTold) (shown : D → DiskShown) (old new : Journal D g) (result : Noted) where
+  append_room : (bytes : List ℕ) (spare : ℕ) → JournalAppends told shown old new bytes spare result → (result ≢ Done → tail_at new ≡ tail_at old) × (result ≡ Done → tail_at new + 1 + spare ≤ 2 ^ 31)
+  append_room bytes spare a = (a.tail_stays, (λ done. ⊎_elim (λ past. absurd (cc (done, a.full.1 (open_at done, past)))) (λ le. omega (arith, a.tail done, le)) (cases_lt (2 ^ 31) (tail_at old + 6 + length bytes + spare))))
+    where
+      open_at : result ≡ Done → is_closed old ≡ false
+      open_at done = ⊎_elim (λ shut. absurd (cc (done, a.closed.1 shut))) (λ is_open. is_open) (cases_Bool (is_closed old))
+
 module _ {D : Type 0} {g : _} (told : DiskTold) (shown : D → DiskShown) (only_now : OnlyNow told shown) (old new : ClientLog D g) (x : Note) (result : Noted) (waits : result ≡ Done → new.pending ≡ waits_by x old.pending) (still : result ≢ Done → new.pending ≡ old.pending) where
   -- where it is known to be dense, it was so, and the note stays
   abbrev IsThick : Kept → Type 0
@@ -71,11 +80,13 @@ module _ {D : Type 0} {g : _} (told : DiskTold) (shown : D → DiskShown) (only_
 
   -- ---- nothing was tried
 
-  untried_leaves : IsUntried old.journal new.journal result → NoteLeaves told shown old new result
+  untried_leaves : IsUntried old.journal new.journal result → NoteLeaves told shown old new x result
   untried_leaves u = record {
     closed = ((λ closed. ⊎_elim (λ shut. shut.1) (λ none. absurd (cc (closed, none.0))) u.1), (λ shut. ⊎_elim (λ was. was.0) (λ none. absurd (cc (shut, none.1))) u.1));
     shuts = ((λ shut. inl (ap is_closed (sym u.0) ∙ shut)), (λ why. ⊎_elim (λ shut. ap is_closed u.0 ∙ shut) (λ fault. ⊎_elim (λ closed. absurd (cc (fault, closed.0))) (λ none. absurd (cc (fault, none.0))) u.1) why));
     stays = λ closed. ap disk_of u.0;
+    full = λ full. ⊎_elim (λ closed. absurd (cc (full, closed.0))) (λ none. absurd (cc (full, none.0))) u.1;
+    room = λ done. ⊎_elim (λ closed. absurd (cc (done, closed.0))) (λ none. absurd (cc (done, none.0))) u.1;
     fails = subst (λ (j : Journal D g). DiskFails told (shown (log_disk old)) (shown (disk_of j)) (result ≡ DiskFault)) (sym u.0)
         (DiskFails-none told (shown (log_disk old)) (λ fault. ⊎_elim (λ closed. cc (fault, closed.0)) (λ none. cc (fault, none.0)) u.1));
   }
@@ -114,8 +125,17 @@ module _ {D : Type 0} {g : _} (told : DiskTold) (shown : D → DiskShown) (only_
   -- ---- a note after the others
 
   module _ (bytes : List ℕ) (bytes_is : bytes ≡ note_text x) (thin : new.dense ≡ false) where
-    added_leaves : JournalAppends told shown old.journal new.journal bytes (spare_after x) result → NoteLeaves told shown old new result
-    added_leaves a = record { closed = a.closed; shuts = a.shuts; stays = λ closed. a.refused (inl closed); fails = a.fails }
+    added_leaves : JournalAppends told shown old.journal new.journal bytes (spare_after x) result → NoteLeaves told shown old new x result
+    added_leaves a =
+        let room = append_room told shown old.journal new.journal result bytes (spare_after x) a in
+        record {
+          closed = a.closed;
+          shuts = a.shuts;
+          stays = λ closed. a.refused (inl closed);
+          full = λ full. omega (arith, (a.full.0 full).1, a.tail_stays (λ done. cc (done, full)), ap length bytes_is);
+          room = room.1;
+          fails = a.fails;
+        }
 
     added_tells : JournalAppends told shown old.journal new.journal bytes (spare_after x) result → (t : told.tells) (k : Kept) (h : Holds shown old k) → MayStand k x → NoteTells told shown old new x result k (log_start old) (log_tail old) 4
     added_tells a t k h may =
@@ -192,6 +212,8 @@ module _ {D : Type 0} {g : _} (told : DiskTold) (shown : D → DiskShown) (only_
               closed = ((λ closed. absurd (c.not_closed (sym ended ∙ closed))), (λ shut. absurd (cc (shut, is_open))));
               shuts = ((λ shut. inr (ended ∙ c.shuts.0 (ap is_closed (sym same) ∙ shut))), (λ why. ⊎_elim (λ shut. absurd (cc (shut, is_open))) (λ fault. ap is_closed same ∙ c.shuts.1 (sym ended ∙ fault)) why));
               stays = λ closed. absurd (c.not_closed (sym ended ∙ closed));
+              full = λ full. absurd (c.not_full (sym ended ∙ full));
+              room = λ done. absurd (other done);
               fails = subst (λ (j : Journal D g). DiskFails told (shown (log_disk old)) (shown (disk_of j)) (result ≡ DiskFault)) (sym same)
                   (DiskFails-as told (shown (log_disk old)) (shown (disk_of mid)) (λ fault. sym ended ∙ fault) (λ fault. ended ∙ fault) c.fails);
             };
@@ -236,6 +258,8 @@ module _ {D : Type 0} {g : _} (told : DiskTold) (shown : D → DiskShown) (only_
               closed = ((λ closed. absurd (shut_mid (a.closed.0 closed))), (λ shut. absurd (cc (shut, is_open))));
               shuts = ((λ shut. ⊎_elim (λ was. absurd (shut_mid was)) (λ fault. inr fault) (a.shuts.0 shut)), (λ why. ⊎_elim (λ shut. absurd (cc (shut, is_open))) (λ fault. a.shuts.1 (inr fault)) why));
               stays = λ closed. absurd (shut_mid (a.closed.0 closed));
+              full = λ full. omega (arith, (a.full.0 full).1, a.tail_stays (λ done. cc (done, full)), ap length bytes_is);
+              room = (append_room told shown mid new.journal result bytes (spare_after x) a).1;
               fails = DiskFails-then told (shown (log_disk old)) (shown (disk_of mid)) (shown (log_disk new)) (λ fault. absurd (cc fault)) c.fails a.fails;
             };
             tells = λ t h may.
@@ -303,36 +327,6 @@ module _ {D : Type 0} {g : _} (told : DiskTold) (shown : D → DiskShown) (only_
     compacts (Ok v) is named spare (inl u) = untried_compacts u
     compacts (Ok v) is named spare (inr c) = then_compacts v.items is named c.is_open c.mid spare c.first c.compacted c.added
     compacts (Err e) is named spare u = untried_compacts u
-
--- ---- the room for the end of a publication, whatever the disk
-
-module _ {D : Type 0} {g : _} (told : DiskTold) (shown : D → DiskShown) (old new : Journal D g) (result : Noted) where
-  append_room : (bytes : List ℕ) (spare : ℕ) → JournalAppends told shown old new bytes spare result → (result ≢ Done → tail_at new ≡ tail_at old) × (result ≡ Done → tail_at new + 1 + spare ≤ 2 ^ 31)
-  append_room bytes spare a = (a.tail_stays, (λ done. ⊎_elim (λ past. absurd (cc (done, a.full.1 (open_at done, past)))) (λ le. omega (arith, a.tail done, le)) (cases_lt (2 ^ 31) (tail_at old + 6 + length bytes + spare))))
-    where
-      open_at : result ≡ Done → is_closed old ≡ false
-      open_at done = ⊎_elim (λ shut. absurd (cc (done, a.closed.1 shut))) (λ is_open. is_open) (cases_Bool (is_closed old))
-
-  pub added_room : (text : Text) (spare : ℕ) → AddsText told shown old new text spare result → (result ≢ Done → tail_at new ≡ tail_at old) × (result ≡ Done → tail_at new + 1 + spare ≤ 2 ^ 31)
-  added_room (Ok v) spare a = append_room v.items spare a
-  added_room (Err e) spare u = ((λ other. ap tail_at u.0), (λ done. absurd (⊎_elim (λ closed. cc (done, closed.0)) (λ none. cc (done, none.0)) u.1)))
-
-pub compacted_room : {D : Type 0} {g : _} (told : DiskTold) (shown : D → DiskShown) (old new : Journal D g) (k : Kept) (dense : Bool) (text : Text) (result : Noted) → CompactsText told shown old new k dense text result
-    → ((tail_at new ≤ tail_at old) ⊎ (tail_at new + 65 ≤ 2 ^ 31)) × (result ≡ Done → tail_at new + 65 ≤ 2 ^ 31)
-compacted_room {D} {g} told shown old new k dense (Ok v) result (inl u) = (inl (omega (arith, ap tail_at u.0)), (λ done. absurd (⊎_elim (λ closed. cc (done, closed.0)) (λ none. cc (done, none.0)) u.1)))
-compacted_room {D} {g} told shown old new k dense (Err e) result u = (inl (omega (arith, ap tail_at u.0)), (λ done. absurd (⊎_elim (λ closed. cc (done, closed.0)) (λ none. cc (done, none.0)) u.1)))
-compacted_room {D} {g} told shown old new k dense (Ok v) result (inr c) = by_first c.first c.compacted c.added
-  where
-    by_first : (first : Noted) → JournalCompacts told shown old c.mid k dense (length v.items) first → AddsAfter told shown c.mid new v.items first result → ((tail_at new ≤ tail_at old) ⊎ (tail_at new + 65 ≤ 2 ^ 31)) × (result ≡ Done → tail_at new + 65 ≤ 2 ^ 31)
-    by_first Done j a =
-        let room = append_room told shown c.mid new result v.items 64 a in (
-          ⊎_elim (λ done. inr (omega (arith, room.1 done))) (λ other. ⊎_elim (λ sooner. inl (omega (arith, sooner, room.0 other))) (λ free. inr (omega (arith, free, room.0 other))) j.room) (done_or_not result),
-          (λ done. omega (arith, room.1 done)),
-        )
-    by_first DiskFault j e = (⊎_elim (λ sooner. inl (omega (arith, sooner, ap tail_at e.0))) (λ free. inr (omega (arith, free, ap tail_at e.0))) j.room, (λ done. absurd (cc (done, e.1))))
-    by_first NoMemory j e = (⊎_elim (λ sooner. inl (omega (arith, sooner, ap tail_at e.0))) (λ free. inr (omega (arith, free, ap tail_at e.0))) j.room, (λ done. absurd (cc (done, e.1))))
-    by_first JournalFull j e = absurd e
-    by_first Closed j e = absurd e
 
 -- troubles that are planned
 pub planned : {D : Type 0} {g : _} (shown : D → DiskShown) (old new : ClientLog D g) (trouble : Trouble) → JournalPlans shown old.journal new.journal trouble → new.pending ≡ old.pending → new.dense ≡ old.dense → LogPlans shown old new trouble

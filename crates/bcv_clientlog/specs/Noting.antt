@@ -1,5 +1,5 @@
 -- What a call that notes something promises, from the log before the call and after it.
-use Rattle.std.specs.Prelude.{◌≡◌, ◌≢◌, ◌⊎◌, ◌↔◌, ℕ, ◌+◌, ◌*◌, ◌^◌, ◌<◌, ◌≤◌, true, [], ◌∷◌}
+use Rattle.std.specs.Prelude.{◌≡◌, ◌≢◌, ◌⊎◌, ◌↔◌, ℕ, ◌+◌, ◌*◌, ◌^◌, ◌<◌, ◌≤◌, true, [], ◌∷◌, length}
 use Rattle.bcv_disk.specs.Crash.{LeavesOnly}
 use Rattle.bcv_disk.specs.DiskShown.{DiskShown, DiskTold, Trouble}
 use Rattle.bcv_disk.specs.DiskCalls.{DiskFails, DiskPlans}
@@ -9,7 +9,7 @@ use Rattle.bcv_journal.specs.declared.fault.Noted.TheVariants.{Done, JournalFull
 use Rattle.bcv_model.specs.declared.kept.Kept.{Kept}
 use Rattle.bcv_model.specs.declared.note.Note.{Note}
 use Rattle.bcv_model.specs.declared.note.Note.TheVariants as note
-use Rattle.bcv_model.specs.Notes.{after_note, note_size}
+use Rattle.bcv_model.specs.Notes.{after_note, note_size, note_text}
 use Rattle.bcv_model.specs.NoteRules.{MayStand}
 use Rattle.bcv_clientlog.specs.declared.log.ClientLog.{ClientLog}
 use Rattle.bcv_clientlog.specs.Compaction.{MovesTo}
@@ -26,11 +26,14 @@ spare_after (note.Void id) = 0
 spare_after (note.Revert db) = 64
 
 -- whatever the disk: when a call is refused, and what it leaves
-pub record NoteLeaves {D : Type 0} {g : _} (told : DiskTold) (shown : D → DiskShown) (old new : ClientLog D g) (result : Noted) : Type 0 where
+pub record NoteLeaves {D : Type 0} {g : _} (told : DiskTold) (shown : D → DiskShown) (old new : ClientLog D g) (x : Note) (result : Noted) : Type 0 where
   pub closed : (result ≡ Closed) ↔ (is_shut old ≡ true)
   -- a fault closes the log, and nothing else does
   pub shuts : (is_shut new ≡ true) ↔ ((is_shut old ≡ true) ⊎ (result ≡ DiskFault))
   pub stays : result ≡ Closed → log_disk new ≡ log_disk old
+  -- the note, its gate and what stays free would pass the limit of a file, and only then is it full
+  pub full : result ≡ JournalFull → 2 ^ 31 < log_tail new + 6 + length (note_text x) + spare_after x
+  pub room : result ≡ Done → log_tail new + 1 + spare_after x ≤ 2 ^ 31
   pub fails : DiskFails told (shown (log_disk old)) (shown (log_disk new)) (result ≡ DiskFault)
 
 -- a note that may stand where this is kept; it goes after notes that begin and end there, in so many calls of the disk
@@ -50,7 +53,7 @@ pub record NoteTells {D : Type 0} {g : _} (told : DiskTold) (shown : D → DiskS
 
 -- a note is tried after the others
 pub record LogNotes {D : Type 0} {g : _} (told : DiskTold) (shown : D → DiskShown) (old new : ClientLog D g) (x : Note) (result : Noted) : Type 0 where
-  pub leaves : NoteLeaves told shown old new result
+  pub leaves : NoteLeaves told shown old new x result
   pub tells : told.tells → (k : Kept) → Holds shown old k → MayStand k x → NoteTells told shown old new x result k (log_start old) (log_tail old) 4
 
 -- what a note does that goes after the fewest notes which come to what is kept, where these take the others' place first
@@ -65,7 +68,7 @@ pub record CompactNoteTells {D : Type 0} {g : _} (told : DiskTold) (shown : D �
 
 -- a note is tried, and the log is written anew before it, where more than half of it is dead
 pub record LogCompacts {D : Type 0} {g : _} (told : DiskTold) (shown : D → DiskShown) (old new : ClientLog D g) (k : Kept) (x : Note) (result : Noted) : Type 0 where
-  pub leaves : NoteLeaves told shown old new result
+  pub leaves : NoteLeaves told shown old new x result
   pub tells : told.tells → Holds shown old k → MayStand k x → CompactNoteTells told shown old new k x result
 
 -- the troubles of the disk are planned to be these, and nothing else changes
