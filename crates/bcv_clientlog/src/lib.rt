@@ -14,3 +14,6 @@ mod noting;
 
 pub use load::LogLoad;
 pub use log::ClientLog;
+
+#[cfg(test)]
+mod tests;
