@@ -22,7 +22,7 @@ use Rattle.bcv_model.specs.declared.note.Note.TheVariants as note
 use Rattle.bcv_model.specs.NoteRules.{HasRoom, MayStand}
 use Rattle.bcv_model.specs.Notes.{after_note, note_size, note_text}
 use Rattle.bcv_notes.specs.KeptBy.{AreNotes}
-use Rattle.bcv_notes.specs.KeptNotes.{Stays}
+use Rattle.bcv_notes.specs.KeptNotes.{IsLasting}
 use Rattle.bcv_notes.proofs.KeptGrowth.{size_grows}
 use Rattle.bcv_clientlog.specs.AddedNote.{AddsAfter, AddsText, CompactTells, CompactsText, CompactsThen, IsDenseWhere, IsUntried, JournalCompacts, Text, reach}
 use Rattle.bcv_clientlog.specs.Compaction.{Compacts, MovesTo}
@@ -76,7 +76,7 @@ module _ {D : Type 0} {g : _} (told : DiskTold) (shown : D → DiskShown) (old n
 module _ {D : Type 0} {g : _} (told : DiskTold) (shown : D → DiskShown) (only_now : OnlyNow told shown) (old new : ClientLog D g) (x : Note) (result : Noted) (waits : result ≡ Done → new.pending ≡ waits_by x old.pending) (still : result ≢ Done → new.pending ≡ old.pending) where
   -- where it is known to be dense, it was so, and the note stays
   abbrev IsThick : Kept → Type 0
-  IsThick k = new.dense ≡ true → (log_area old < 2 * (size_kept k + 1)) × Stays x
+  IsThick k = new.dense ≡ true → (log_area old < 2 * (size_kept k + 1)) × IsLasting x
 
   -- ---- nothing was tried
 
@@ -179,7 +179,7 @@ module _ {D : Type 0} {g : _} (told : DiskTold) (shown : D → DiskShown) (only_
   -- ---- a note after a compaction
 
   -- whether the log was known to be dense then, and is now
-  module _ (k : Kept) (known : Bool) (why : known ≡ true → (old.dense ≡ true) ⊎ (log_area old < 2 * (size_kept k + 1))) (keeps : new.dense ≡ true → (known ≡ true) × Stays x) where
+  module _ (k : Kept) (known : Bool) (why : known ≡ true → (old.dense ≡ true) ⊎ (log_area old < 2 * (size_kept k + 1))) (keeps : new.dense ≡ true → (known ≡ true) × IsLasting x) where
     dense_where : Holds shown old k → IsDenseWhere known old.journal k
     dense_where h is = ⊎_elim (λ was. h.dense was) (λ now. now) (why is)
 
@@ -296,9 +296,9 @@ module _ {D : Type 0} {g : _} (told : DiskTold) (shown : D → DiskShown) (only_
                           are = ct.are;
                           waits = still not_done ∙ h.waits;
                           room = adding.room_kept told shown only_now t mid k ct.items has ct.are room new.journal x may bytes bytes_is result a not_done;
-                        dense = λ is.
-                            let place = unmoved h (note_size x) (start_at mid) (tail_at mid) ct.calls (keeps is).0 moved in
-                            omega (arith, (thick_where h is).0, place.0, place.1, a.tail_stays not_done, a.start);
+                          dense = λ is.
+                              let place = unmoved h (note_size x) (start_at mid) (tail_at mid) ct.calls (keeps is).0 moved in
+                              omega (arith, (thick_where h is).0, place.0, place.1, a.tail_stays not_done, a.start);
                         };
                     starts = λ done. a.start;
                     ends = λ done. omega (arith, a.tail done, size);

@@ -50,7 +50,8 @@ pub record CompactTells {D : Type 0} {g : _} (told : DiskTold) (shown : D → Di
 abbrev pub IsDenseWhere : {D : Type 0} {g : _} → Bool → Journal D g → Kept → Type 0
 IsDenseWhere known journal k = known ≡ true → tail_at journal - start_at journal < 2 * (notes_size (kept_notes k) + 1)
 
--- a compaction before a text of so many bytes, where there is one: Done in each case; none is known to be due where it is dense
+-- a compaction before a text of so many bytes, where there is one: Done in each case; none is known to be due where
+-- it is dense
 pub record JournalCompacts {D : Type 0} {g : _} (told : DiskTold) (shown : D → DiskShown) (old new : Journal D g) (k : Kept) (dense : Bool) (more : ℕ) (result : Noted) : Type 0 where
   pub not_closed : result ≢ Closed
   pub not_full : result ≢ JournalFull

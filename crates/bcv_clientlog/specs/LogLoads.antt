@@ -21,7 +21,8 @@ abbrev pub loaded_disk : {D : Type 0} {g : _} → LogLoad D g → D
 loaded_disk (Ready log kept) = log_disk log
 loaded_disk (Refused disk fault) = disk
 
--- the file's item of some number is refused, and this is the place of its gate: the bytes before the items, and those of
+-- the file's item of some number is refused, and this is the place of its gate: the bytes before the items, and
+-- those of
 -- the items in front of it
 pub record IsRefusedAt (bytes : List ℕ) (place : ℕ) : Type 0 where
   pub items : List (List ℕ)
@@ -50,7 +51,8 @@ LogGives shown bytes (Refused disk (NotJournal place)) = IsNoLog bytes place × 
 LogGives shown bytes (Refused disk DiskFault) = Unit {0}
 LogGives shown bytes (Refused disk NoMemory) = Unit {0}
 
--- bytes that load as notes which come to something give this and no other, in a log no longer than those bytes; they are
+-- bytes that load as notes which come to something give this and no other, in a log no longer than those bytes; they
+-- are
 -- not refused
 abbrev pub GivesOnly : {D : Type 0} {g : _} → List ℕ → LogLoad D g → Type 0
 GivesOnly bytes (Ready log kept) = (k : Kept) (most : ℕ) → LoadsAs bytes k most → (kept ≡ k) × (log_tail log + log_area log ≤ most)

@@ -43,7 +43,8 @@ is_dense log = log.dense
 abbrev pub size_kept : Kept → ℕ
 size_kept k = notes_size (kept_notes k)
 
--- the bytes load as notes that come to this, the rules on the tail hold, and the tail and the notes' bytes together are no more than this
+-- the bytes load as notes that come to this, the rules on the tail hold, and the tail and the notes' bytes together
+-- are no more than this
 pub record LoadsAs (bytes : List ℕ) (k : Kept) (most : ℕ) : Type 0 where
   pub items : List (List ℕ)
   pub tail : ℕ

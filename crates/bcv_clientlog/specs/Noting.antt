@@ -36,7 +36,8 @@ pub record NoteLeaves {D : Type 0} {g : _} (told : DiskTold) (shown : D → Disk
   pub room : result ≡ Done → log_tail new + 1 + spare_after x ≤ 2 ^ 31
   pub fails : DiskFails told (shown (log_disk old)) (shown (log_disk new)) (result ≡ DiskFault)
 
--- a note that may stand where this is kept; it goes after notes that begin and end there, in so many calls of the disk
+-- a note that may stand where this is kept; it goes after notes that begin and end there, in so many calls of the
+-- disk
 pub record NoteTells {D : Type 0} {g : _} (told : DiskTold) (shown : D → DiskShown) (old new : ClientLog D g) (x : Note) (result : Noted) (k : Kept) (begin end calls : ℕ) : Type 0 where
   -- a crash at any moment of the call leaves what was kept, or that with the note
   pub any_moment : LeavesOnly (shown (log_disk old)) (shown (log_disk new)) (LoadsUpTo k (log_tail old + log_area old) (x ∷ []))
@@ -56,7 +57,8 @@ pub record LogNotes {D : Type 0} {g : _} (told : DiskTold) (shown : D → DiskSh
   pub leaves : NoteLeaves told shown old new x result
   pub tells : told.tells → (k : Kept) → Holds shown old k → MayStand k x → NoteTells told shown old new x result k (log_start old) (log_tail old) 4
 
--- what a note does that goes after the fewest notes which come to what is kept, where these take the others' place first
+-- what a note does that goes after the fewest notes which come to what is kept, where these take the others' place
+-- first
 pub record CompactNoteTells {D : Type 0} {g : _} (told : DiskTold) (shown : D → DiskShown) (old new : ClientLog D g) (k : Kept) (x : Note) (result : Noted) : Type 0 where
   pub begin : ℕ
   pub end : ℕ

@@ -42,10 +42,12 @@ pub fn items_size(items: &[Vec<u8>]) -> u64
     size
 }
 
-/// Whether a log is long and more than half of it stays, where that is known or shows now. So it remains while only notes
+/// Whether a log is long and more than half of it stays, where that is known or shows now. So it remains while only
+/// notes
 /// are added that stay.
 pub fn is_dense<D: Disk>(journal: &Journal<D>, kept: &Kept, known: bool) -> bool
-    ensures { IsTrue result → (known ≡ true) ⊎ (tail_at journal.now - start_at journal.now < 2 * (notes_size (kept_notes kept.now) + 1)) }
+    ensures { IsTrue result → (known ≡ true)
+        ⊎ (tail_at journal.now - start_at journal.now < 2 * (notes_size (kept_notes kept.now) + 1)) }
 {
     if known {
         return true;
@@ -56,7 +58,8 @@ pub fn is_dense<D: Disk>(journal: &Journal<D>, kept: &Kept, known: bool) -> bool
 }
 
 /// Writes a log anew, as the fewest notes that come to what is kept, where that frees more than half of a long one,
-/// which it never does where the log is `dense`. `more` is the length of the note to come, in bytes. It is `Done` where
+/// which it never does where the log is `dense`. `more` is the length of the note to come, in bytes. It is `Done`
+/// where
 /// nothing is to do, too.
 pub fn compact<D: Disk>(
     alloc: Global,

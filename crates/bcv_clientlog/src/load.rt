@@ -37,8 +37,7 @@ fn place_of(tail: u64, items: &[Vec<u8>], number: usize) -> u64
 fn has_room(kept: &Kept, tail: u64) -> bool
     ensures { IsTrue result ↔ HasRoom kept.now tail }
 {
-    (kept.me.is_some() || tail <= ROOM_TO_BEGIN)
-        && (kept.pending.is_none() || tail <= ROOM_TO_END)
+    (kept.me.is_some() || tail <= ROOM_TO_BEGIN) && (kept.pending.is_none() || tail <= ROOM_TO_END)
 }
 
 impl<D: Disk> ClientLog<D> {

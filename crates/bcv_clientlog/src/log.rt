@@ -16,7 +16,8 @@ use std::alloc::Global;
 /// A client's log, open for notes until its disk fails.
 ///
 /// Each call that notes something has as its condition that the note may stand where this is kept. `Closed` comes
-/// first, then `JournalFull`. After `DiskFault` the note is on the disk or not, and every later call answers `Closed`.
+/// first, then `JournalFull`. After `DiskFault` the note is on the disk or not, and every later call answers
+/// `Closed`.
 #[derive(Drop)]
 pub struct ClientLog<D: Disk> {
     pub(crate) journal: Journal<D>,
@@ -52,7 +53,8 @@ impl<D: Disk> ClientLog<D> {
         commit: &Commit,
     ) -> Noted
         requires few { length commit.now.pages < 2 ^ 32 }
-        ensures { LogCompacts D.told D.shown self.old self.new kept.now (First entry.now number block commit.now) result }
+        ensures { LogCompacts D.told D.shown self.old self.new kept.now
+            (First entry.now number block commit.now) result }
     {
         self.dense = is_dense(&self.journal, kept, self.dense);
         let text = first_note(alloc, entry, number, block, commit);
@@ -119,7 +121,13 @@ impl<D: Disk> ClientLog<D> {
     {
         let dense = is_dense(&self.journal, kept, self.dense);
         self.dense = false;
-        add_compactly(alloc, &mut self.journal, kept, dense, revert_note(alloc, db))
+        add_compactly(
+            alloc,
+            &mut self.journal,
+            kept,
+            dense,
+            revert_note(alloc, db),
+        )
     }
 
     /// Whether a call has met a fault of the disk.

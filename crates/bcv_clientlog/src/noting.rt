@@ -59,5 +59,9 @@ pub fn add_compactly<D: Disk>(
 fn untried(closed: bool) -> Noted
     ensures { result ≡ (if closed then Noted.Closed else Noted.NoMemory) }
 {
-    if closed { Noted::Closed } else { Noted::NoMemory }
+    if closed {
+        Noted::Closed
+    } else {
+        Noted::NoMemory
+    }
 }

@@ -7,7 +7,8 @@ use std::alloc::Global;
 use std::test::Fail;
 
 // The bytes of a disk with the note Me of the id that ends in 1.
-const ME: [u8; 40] = *b"BCVJRN02\0\0\0\0\x11\0\0\0\0\x01\0\0\0\x11\x01\0\0\0\0\0\0\0\0\0\0\0\0\0\0\0\x01\0";
+const ME: [u8; 40] =
+    *b"BCVJRN02\0\0\0\0\x11\0\0\0\0\x01\0\0\0\x11\x01\0\0\0\0\0\0\0\0\0\0\0\0\0\0\0\x01\0";
 
 const fn id(last: u8) -> Id16 {
     Id16([0, 0, 0, 0, 0, 0, 0, 0, 0, 0, 0, 0, 0, 0, 0, last])
@@ -164,7 +165,13 @@ fn publications_and_commits_are_noted(rt: HostRuntime) -> Result<(), Fail> {
     assert_eq!(rt; published(alloc, &mut log, &two, false)?, Noted::Done);
     let (log, kept) = loaded(alloc, log.down())?;
     assert!(rt; kept.pending.is_none());
-    assert_eq!(rt; kept.locals.items().first().map(|local| local.commits.items().len()), Some(2));
+    assert_eq!(rt;
+        kept.locals
+            .items()
+            .first()
+            .map(|local| local.commits.items().len()),
+        Some(2)
+    );
     Ok(())
 }
 

@@ -77,8 +77,8 @@ gate_loads image front items tail gate item rest tail_is is_front each is short 
     let long : length image ≤ 2 ^ 31 = omega (arith, torn.no_longer, short, length-append (written front items) (gate ∷ (block_of item ++ rest))) in
     elim (cases_eq byte 1) [
       | inl one ↦ inr (subst (λ (l : List ℕ). EndsAt l (items ++ item ∷ []) (tail + 5 + length item)) (sym (image_is ∙ ap (λ (b : ℕ). written front items ++ b ∷ (block_of item ++ rest)) one)) (
-        inr (omega (arith, long, ap length image_is, length-append (written front items) (byte ∷ (block_of item ++ rest)), length-append (written front items) (1 ∷ (block_of item ++ rest))), spelled_after front items item rest is_front each is, omega (arith, tail_is, tail-push (length front) items item))
-      ))
+          inr (omega (arith, long, ap length image_is, length-append (written front items) (byte ∷ (block_of item ++ rest)), length-append (written front items) (1 ∷ (block_of item ++ rest))), spelled_after front items item rest is_front each is, omega (arith, tail_is, tail-push (length front) items item))
+          ))
       | inr shut ↦ inl (inr (long, record { front = front; gate = byte; rest = block_of item ++ rest; is_front = is_front; closed = shut; each = each; whole = image_is }, tail_is))
     ]
 

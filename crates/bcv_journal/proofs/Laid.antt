@@ -114,7 +114,7 @@ module _ (old : DiskShown) (area : Area) (start : ℕ) (block : List ℕ) (items
       field_read =
           ap (λ (l : List ℕ). take 4 (drop (field_of (not area.second)) l)) last_is
           ∙ subst (λ (n : ℕ). take n (drop (field_of (not area.second)) (put mid (field_of (not area.second)) field)) ≡ field) (ap length field_is)
-            (put_window mid (field_of (not area.second)) field at_field)
+          (put_window mid (field_of (not area.second)) field at_field)
           ∙ field_is
 
       pub leads_laid : (given : List (List ℕ)) → IsWholeArea block given → LeadsTo last.seen (not area.second) start given

@@ -118,8 +118,8 @@ module _ (told : DiskTold) (old : DiskShown) (area : Area) (start : ℕ) (block 
             let kept = at_place NoMemory keeps in
             record {
               fails = DiskFails-as told old last (λ none. absurd (cc none)) (λ done. absurd (cc done)) (
-                DiskFails-then told old next last (λ none. absurd (cc none)) (DiskFails-then told old mid next (λ done. absurd (cc done)) first.fails kept.fails) third.fails
-              );
+                  DiskFails-then told old next last (λ none. absurd (cc none)) (DiskFails-then told old mid next (λ done. absurd (cc done)) first.fails kept.fails) third.fails
+                  );
               calls = λ t done. absurd (cc done);
               room = λ t done. absurd (cc done);
               no_shorter = λ t fine. omega (arith, ap length (first.written t refl), length-put old.seen start block, ap length (kept.same t refl).bytes, ap length (third.seen t refl));

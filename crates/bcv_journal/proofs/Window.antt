@@ -22,7 +22,7 @@ window old new at n s k torn within (inr above) =
     let m = s - (at + n) in
     let whole : s ≡ at + n + m = omega (arith, above) in
     ap (λ (l : List ℕ). take k l) (
-      ap (λ (p : ℕ). drop p new) whole ∙ sym (drop-drop m (at + n) new) ∙ ap (λ (l : List ℕ). drop m l) torn.after ∙ drop-drop m (at + n) old ∙ ap (λ (p : ℕ). drop p old) (sym whole)
+    ap (λ (p : ℕ). drop p new) whole ∙ sym (drop-drop m (at + n) new) ∙ ap (λ (l : List ℕ). drop m l) torn.after ∙ drop-drop m (at + n) old ∙ ap (λ (p : ℕ). drop p old) (sym whole)
     )
 
 -- the bytes that were put

@@ -57,7 +57,13 @@ fn choose<D: Disk>(alloc: Global, disk: &mut D, area: Area) -> DiskEnd
 }
 
 /// Lays an area at this start, and then chooses it.
-pub fn replace<D: Disk>(alloc: Global, disk: &mut D, area: Area, start: u64, block: &[u8]) -> DiskEnd
+pub fn replace<D: Disk>(
+    alloc: Global,
+    disk: &mut D,
+    area: Area,
+    start: u64,
+    block: &[u8],
+) -> DiskEnd
     requires from { D.told.tells → area.tail < length (D.shown disk.old).seen }
     requires apart { IsApart area start (length block.now) }
     ensures { DiskMoves D.told (D.shown disk.old) (D.shown disk.new) area start block.now result }

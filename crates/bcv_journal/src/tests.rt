@@ -246,11 +246,7 @@ fn the_limit_is_exact(rt: HostRuntime) -> Result<(), Fail> {
 }
 
 // A restart with one item.
-fn restarted(
-    alloc: Global,
-    journal: &mut Journal<MemDisk>,
-    text: &[u8],
-) -> Result<Noted, Fail> {
+fn restarted(alloc: Global, journal: &mut Journal<MemDisk>, text: &[u8]) -> Result<Noted, Fail> {
     let (_, tail) = journal.span();
     if tail > 4096 || text.is_empty() || text.len() > 4096 {
         return Err(Fail::new("too long"));

@@ -170,12 +170,12 @@ module _ (k : Kept) (w : IsWell k) where
       fits = subst (AllByRecursion (FitsDatabase x.block x.entry.page_size)) (sym one) (may.fits, tt);
     }) w.each;
     waits = waits_as k (record k { locals = with_keyed kept_name x k.locals }) k.pending (λ u m.
-      upload_as k (record k { locals = with_keyed kept_name x k.locals }) u m (keyed_other kept_name x u.entry.name k.locals (
+        upload_as k (record k { locals = with_keyed kept_name x k.locals }) u m (keyed_other kept_name x u.entry.name k.locals (
         by_test (bytes_eq (kept_name x) u.entry.name)
         (λ e. let both : Some m.local ≡ None = sym m.is_local ∙ ap (λ (n : List ℕ). keyed kept_name n k.locals) (sym (same_key (kept_name x) u.entry.name e)) ∙ may.is_new in absurd (cc both))
         (λ e. e)
-      ))
-    ) w.waits;
+        ))
+        ) w.waits;
   }
 
   well_committed : (db : List ℕ) (c : Commit) → MayStand k (Committed db c) → IsWell (record k { locals = with_local_commit db c k.locals })
@@ -188,22 +188,25 @@ module _ (k : Kept) (w : IsWell k) where
         block = w.block;
         alike = all_replaced (grows db c) db (λ (l : Local). l.block ≡ w.block) k.locals may.local may.is_local w.alike (all_found kept_name (λ (l : Local). l.block ≡ w.block) db k.locals may.local w.alike may.is_local, tt);
         ascends = ascends_replaced (grows db c) db (λ l e. refl) k.locals w.ascends;
-        each = all_replaced (grows db c) db IsWellLocal k.locals may.local may.is_local w.each (record {
-          is_block = old.is_block;
-          is_number = old.is_number;
-          is_entry = old.is_entry;
-          some = omega (arith, length-append may.local.commits (c ∷ []));
-          fits = all_append (FitsDatabase may.local.block may.local.entry.page_size) may.local.commits (c ∷ []) old.fits (may.fits, tt);
-        }, tt);
+        each = all_replaced (grows db c) db IsWellLocal k.locals may.local may.is_local w.each (
+          record {
+            is_block = old.is_block;
+            is_number = old.is_number;
+            is_entry = old.is_entry;
+            some = omega (arith, length-append may.local.commits (c ∷ []));
+            fits = all_append (FitsDatabase may.local.block may.local.entry.page_size) may.local.commits (c ∷ []) old.fits (may.fits, tt);
+          },
+          tt,
+        );
         waits = waits_as k new k.pending (λ u m.
-          by_test (bytes_eq db u.entry.name)
-          (λ e.
-          let name : db ≡ u.entry.name = same_key db u.entry.name e in
-          let here : keyed kept_name db k.locals ≡ Some m.local = ap (λ (n : List ℕ). keyed kept_name n k.locals) name ∙ m.is_local in
-          let found : IsLocal new u.entry.name (grown c m.local) = ap (λ (n : List ℕ). keyed kept_name n new.locals) (sym name) ∙ grown_here db c k.locals m.local here in
-          upload_kept k new u m (grown c m.local) found (omega (arith, length-append m.local.commits (c ∷ []))) refl refl)
-          (λ e. upload_as k new u m (grown_other db c u.entry.name k.locals e))
-        ) w.waits;
+            by_test (bytes_eq db u.entry.name)
+            (λ e.
+            let name : db ≡ u.entry.name = same_key db u.entry.name e in
+            let here : keyed kept_name db k.locals ≡ Some m.local = ap (λ (n : List ℕ). keyed kept_name n k.locals) name ∙ m.is_local in
+            let found : IsLocal new u.entry.name (grown c m.local) = ap (λ (n : List ℕ). keyed kept_name n new.locals) (sym name) ∙ grown_here db c k.locals m.local here in
+            upload_kept k new u m (grown c m.local) found (omega (arith, length-append m.local.commits (c ∷ []))) refl refl)
+            (λ e. upload_as k new u m (grown_other db c u.entry.name k.locals e))
+            ) w.waits;
       }
 
   well_intent : (p : PendingPub) → MayStand k (Intent p) → IsWell (record k { pending = Some p })

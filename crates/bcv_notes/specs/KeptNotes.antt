@@ -49,14 +49,14 @@ notes_size [] = 0
 notes_size (x ∷ xs) = 5 + note_size x + notes_size xs
 
 -- the note stays among the fewest, until a publication ends or commits are given up
-abbrev pub Stays : Note → Type 0
-Stays (Me id) = ⊥
-Stays (First entry number block c) = Unit {0}
-Stays (Committed db c) = Unit {0}
-Stays (Intent p) = Unit {0}
-Stays (Done id number) = ⊥
-Stays (Void id) = ⊥
-Stays (Revert db) = ⊥
+abbrev pub IsLasting : Note → Type 0
+IsLasting (Me id) = ⊥
+IsLasting (First entry number block c) = Unit {0}
+IsLasting (Committed db c) = Unit {0}
+IsLasting (Intent p) = Unit {0}
+IsLasting (Done id number) = ⊥
+IsLasting (Void id) = ⊥
+IsLasting (Revert db) = ⊥
 
 -- ---- laws
 
@@ -70,4 +70,4 @@ SizesAdd = (k end : Kept) (xs : List Note) → Folds k xs end → items_size (ma
 
 -- a note that stays makes the fewest notes longer by itself at least
 abbrev pub SizeGrows : Type 0
-SizeGrows = (k : Kept) (x : Note) → MayStand k x → Stays x → notes_size (kept_notes k) + 5 + note_size x ≤ notes_size (kept_notes (after_note k x))
+SizeGrows = (k : Kept) (x : Note) → MayStand k x → IsLasting x → notes_size (kept_notes k) + 5 + note_size x ≤ notes_size (kept_notes (after_note k x))

@@ -27,7 +27,9 @@ fn pages_size(pages: &[(u32, Seq<u8>)]) -> u64
     let mut size = 0u64;
     let mut rest = pages;
     while let Some((page, after)) = rest.split_first() {
-        size = size.saturating_add(4).saturating_add(page.1.items().len() as u64);
+        size = size
+            .saturating_add(4)
+            .saturating_add(page.1.items().len() as u64);
         rest = after;
     }
     size
@@ -57,7 +59,8 @@ fn local_size(local: &Local) -> u64
             let pages = pages_size(first.pages.items());
             let base = entry_size(&local.entry).saturating_add(26);
             let name = local.entry.name.text().len();
-            base.saturating_add(pages).saturating_add(committed_size(name, after))
+            base.saturating_add(pages)
+                .saturating_add(committed_size(name, after))
         }
         None => 0,
     }
@@ -96,13 +99,16 @@ fn intent_size(pending: &Option<PendingPub>) -> u64
     }
 }
 
-/// How many bytes the fewest notes take in a file that come to what is kept, or 2^64 - 1 where they are more. It takes
+/// How many bytes the fewest notes take in a file that come to what is kept, or 2^64 - 1 where they are more. It
+/// takes
 /// no memory.
 pub fn kept_size(kept: &Kept) -> u64
     ensures { result ≡ min (notes_size (kept_notes kept.now)) (2 ^ 64 - 1) }
 {
     let locals = locals_size(kept.locals.items());
-    me_size(&kept.me).saturating_add(locals).saturating_add(intent_size(&kept.pending))
+    me_size(&kept.me)
+        .saturating_add(locals)
+        .saturating_add(intent_size(&kept.pending))
 }
 
 fn push_me(alloc: Global, items: &mut Vec<Vec<u8>>, me: &Option<Id16>) -> Result<(), AllocError>
@@ -172,7 +178,8 @@ fn push_locals(alloc: Global, items: &mut Vec<Vec<u8>>, locals: &[Local]) -> Res
     Ok(())
 }
 
-/// The bytes of the fewest notes that come to what is kept: the client's id, the databases ascending by name, each with
+/// The bytes of the fewest notes that come to what is kept: the client's id, the databases ascending by name, each
+/// with
 /// its commits, and the pending publication.
 pub fn kept_items(alloc: Global, kept: &Kept) -> Result<Vec<Vec<u8>>, AllocError>
     requires { notes_size (kept_notes kept.now) < 2 ^ 32 }
