@@ -51,13 +51,6 @@ within zero (x ∷ xs) item rest is = omega arith
 within (suc n) [] item rest is = absurd cc
 within (suc n) (x ∷ xs) item rest is = omega (arith, within n xs item rest is)
 
-length_items : (vs : List (Vec ℕ Global)) → length (items_of vs) ≡ length vs
-length_items [] = refl
-length_items (v ∷ vs) = ap suc (length_items vs)
-
-pub stops_within : (vs : List (Vec ℕ Global)) (n : ℕ) → StopsAt (items_of vs) n → n ≤ length vs
-stops_within vs n s = omega (arith, within n (items_of vs) s.item s.rest s.next, length_items vs)
-
 -- ---- what folds is not refused
 
 -- the notes in front of an item, and that it is one

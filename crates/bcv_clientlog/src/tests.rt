@@ -2,7 +2,8 @@ use super::*;
 use bcv_base::{DbEntry, DbName, Id16, Seq};
 use bcv_disk::{Disk, DiskEnd, MemDisk, Size};
 use bcv_journal::{Journal, JournalFault, Load, Noted};
-use bcv_model::{Commit, Kept, Local, PendingPub};
+use bcv_model::{Commit, Kept, Local, Note, PendingPub, Uploading};
+use bcv_notes::after_note;
 use std::alloc::Global;
 use std::test::Fail;
 
@@ -203,5 +204,82 @@ fn the_last_of_many_reverts_compacts(rt: HostRuntime) -> Result<(), Fail> {
     assert_eq!(rt; journal.span(), (65_744, 66_358));
     let (_, kept) = loaded(alloc, journal.down())?;
     assert_eq!(rt; kept.locals.items().len(), 0);
+    Ok(())
+}
+
+// Notes so many more commits, each after what is kept.
+fn commits(
+    alloc: Global,
+    log: &mut ClientLog<MemDisk>,
+    kept: Kept,
+    count: usize,
+) -> Result<Kept, Fail> {
+    let mut kept = kept;
+    for _ in 0..count {
+        if second(alloc, log, &kept)? != Noted::Done {
+            return Err(Fail::new("no commit"));
+        }
+        let note = Note::Committed {
+            db: name()?,
+            commit: commit(alloc)?,
+        };
+        kept = after_note(alloc, kept, note)?;
+    }
+    Ok(kept)
+}
+
+// Uploads so many commits.
+fn uploaded(
+    alloc: Global,
+    log: &mut ClientLog<MemDisk>,
+    kept: Kept,
+    count: u64,
+) -> Result<Kept, Fail> {
+    let upload = Uploading {
+        count,
+        block: 512,
+        entry: entry(alloc)?,
+    };
+    let pending = PendingPub {
+        id: id(8),
+        upload: Some(upload),
+    };
+    match log.intent(alloc, &kept, &pending) {
+        Noted::Done => {}
+        _ => return Err(Fail::new("no intent")),
+    }
+    let kept = after_note(alloc, kept, Note::Intent(pending))?;
+    match log.done(alloc, &id(8), 2) {
+        Noted::Done => {}
+        _ => return Err(Fail::new("not done")),
+    }
+    let done = Note::Done {
+        id: id(8),
+        number: 2,
+    };
+    Ok(after_note(alloc, kept, done)?)
+}
+
+#[test]
+fn a_commit_after_an_upload_compacts(rt: HostRuntime) -> Result<(), Fail> {
+    let alloc = rt.alloc();
+    let mut log = named(alloc)?;
+    assert_eq!(rt; first(alloc, &mut log, &kept(alloc, 0)?)?, Noted::Done);
+    let kept = commits(alloc, &mut log, kept(alloc, 1)?, 19_999)?;
+    let kept = uploaded(alloc, &mut log, kept, 19_990)?;
+    let kept = commits(alloc, &mut log, kept, 1)?;
+    let Load::Ready(journal, _) = Journal::load(alloc, log.down()) else {
+        return Err(Fail::new("refused"));
+    };
+    let (start, tail) = journal.span();
+    assert!(rt; tail < start + 100_000);
+    let (_, left) = loaded(alloc, journal.down())?;
+    assert_eq!(rt;
+        left.locals
+            .items()
+            .first()
+            .map(|local| local.commits.items().len()),
+        Some(11)
+    );
     Ok(())
 }

@@ -71,12 +71,3 @@ first_step before mid v new l c after is pushed text later =
     later ∙ ap (λ (x : List (List ℕ)). x ++ map note_text (committed_notes l.entry.name after)) (ap items_of pushed ∙ items_push before v ∙ ap (λ (t : List ℕ). items_of before ++ t ∷ []) text)
     ∙ append_assoc (items_of before) (note_text (First l.entry l.number l.block c) ∷ []) (map note_text (committed_notes l.entry.name after))
     ∙ ap (λ (cs : List Commit). items_of before ++ map note_text (first_notes l cs)) (sym is)
-
--- the three parts, one after another
-pub kept_step : (k : Kept) (first second third : List (List ℕ)) → first ≡ map note_text (me_notes k.me) → second ≡ first ++ map note_text (flat_map local_notes k.locals) → third ≡ second ++ map note_text (intent_notes k.pending)
-    → third ≡ map note_text (kept_notes k)
-kept_step k first second third one two three =
-    three ∙ ap (λ (x : List (List ℕ)). x ++ map note_text (intent_notes k.pending)) (two ∙ ap (λ (x : List (List ℕ)). x ++ map note_text (flat_map local_notes k.locals)) one)
-    ∙ append_assoc (map note_text (me_notes k.me)) (map note_text (flat_map local_notes k.locals)) (map note_text (intent_notes k.pending))
-    ∙ ap (λ (x : List (List ℕ)). map note_text (me_notes k.me) ++ x) (sym (texts_append (flat_map local_notes k.locals) (intent_notes k.pending)))
-    ∙ sym (texts_append (me_notes k.me) (flat_map local_notes k.locals ++ intent_notes k.pending))
