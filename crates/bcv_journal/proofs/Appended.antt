@@ -1,6 +1,6 @@
 -- What the calls of a journal come to, from those of its disk.
 use Rattle.std.proofs.Common.{◌≡◌, ◌⊎◌, inl, inr, ⊎_elim, ℕ, ◌+◌, ◌<◌, ◌≤◌, ◌^◌, Bool, true, false, List, [], ◌∷◌, ◌++◌, length, Vec, Global, Ok, refl, sym, ◌∙◌, ap, subst, arith}
-use Rattle.bcv_disk.specs.Calls.{DiskFails-as}
+use Rattle.bcv_disk.specs.Calls.{DiskFails-as, DiskFails-none, LeavesOnly-started}
 use Rattle.bcv_disk.specs.DiskCalls.{DiskPlans}
 use Rattle.bcv_disk.specs.DiskShown.{DiskShown, DiskTold, Trouble}
 use Rattle.bcv_disk.specs.declared.disk.DiskEnd.TheVariants as end
@@ -8,12 +8,12 @@ use Rattle.bcv_journal.specs.AddedItem.{DiskAdds, longer}
 use Rattle.bcv_journal.specs.JournalCalls.{JournalAppends, JournalPlans}
 use Rattle.bcv_journal.specs.Loaded.{JournalLoads, load_calls}
 use Rattle.bcv_journal.specs.LoadedItems.{ItemsLoad}
-use Rattle.bcv_journal.specs.Settled.{IsSettled, items_of}
+use Rattle.bcv_journal.specs.Settled.{IsBeforeOrAfter, IsSettled, items_of}
 use Rattle.bcv_journal.specs.declared.area.Area.{Area}
 use Rattle.bcv_journal.specs.declared.fault.Noted.TheVariants as noted
 use Rattle.bcv_journal.specs.declared.journal.Journal.{Journal}
 use Rattle.bcv_journal.specs.declared.load.Load.TheVariants.{Ready, Refused}
-use Rattle.bcv_journal.proofs.Append.{settled_same}
+use Rattle.bcv_journal.proofs.Append.{settled_ends, settled_same}
 
 pub ready_loads : {D : Type 0} {g : _} (told : DiskTold) (shown : D → DiskShown) (disk : D) (journal : Journal D g) (v : Vec (Vec ℕ Global) Global) → journal.closed ≡ false
     → ItemsLoad told (shown disk) (shown journal.disk) (load_calls (shown disk).seen) (Ok (v, journal.area)) → JournalLoads told shown disk (Ready journal v)
@@ -86,6 +86,26 @@ module _ {D : Type 0} {g : _} (told : DiskTold) (shown : D → DiskShown) (old n
           kept = λ why. (still, subst (λ (x : Area). IsSettled (shown new.disk) x items) (sym area_is) (tells.kept refl));
         };
   }
+
+pub append_full : {D : Type 0} {g : _} (told : DiskTold) (shown : D → DiskShown) (old : Journal D g) (bytes : List ℕ) (spare : ℕ) → old.closed ≡ false → 2 ^ 31 < old.area.tail + 6 + length bytes + spare
+    → (told.tells → (image : List ℕ) → (shown old.disk).left_since (shown old.disk).moment image → (shown old.disk).may_leave image) → JournalAppends told shown old old bytes spare noted.JournalFull
+append_full told shown old bytes spare is_open past only_now = record {
+  closed = ((λ closed. absurd (cc closed)), (λ shut. absurd (cc (shut, is_open))));
+  full = ((λ full. (is_open, past)), (λ why. refl));
+  fails = DiskFails-none told (shown old.disk) (λ fault. cc fault);
+  shuts = ((λ shut. absurd (cc (shut, is_open))), (λ why. ⊎_elim (λ shut. absurd (cc (shut, is_open))) (λ fault. absurd (cc fault)) why));
+  start = refl;
+  tail = λ done. absurd (cc done);
+  tail_stays = λ not_done. refl;
+  refused = λ why. refl;
+  calls = λ t done. absurd (cc done);
+  bytes_are = λ t done. absurd (cc done);
+  items = λ t items has. record {
+    any_moment = LeavesOnly-started (shown old.disk) (IsBeforeOrAfter items old.area.tail bytes) (λ image left. inl (settled_ends (shown old.disk) old.area items has.1 image (only_now t image left)));
+    done = λ done. absurd (cc done);
+    kept = λ why. has;
+  };
+}
 
 pub planned_journal : {D : Type 0} {g : _} (shown : D → DiskShown) (old new : Journal D g) (trouble : Trouble) → DiskPlans (shown old.disk) (shown new.disk) trouble → new.area ≡ old.area → new.closed ≡ old.closed → JournalPlans shown old new trouble
 planned_journal shown old new trouble p area_is closed_is = record {

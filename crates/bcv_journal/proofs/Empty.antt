@@ -3,7 +3,7 @@ use Rattle.std.proofs.Common.{◌≡◌, ℕ, false, ◌≤◌, ◌^◌, List, [
 use Rattle.std.proofs.lemmas.List.{drop_all}
 use Rattle.bcv_disk.specs.Crash.{Only, put}
 use Rattle.bcv_disk.specs.DiskShown.{DiskShown}
-use Rattle.bcv_journal.specs.Layout.{IsFront, IsSpelled, empty, magic}
+use Rattle.bcv_journal.specs.Layout.{empty, magic}
 use Rattle.bcv_journal.specs.Settled.{IsSettled}
 use Rattle.bcv_journal.specs.declared.area.Area.{Area}
 
@@ -12,17 +12,6 @@ put_empty old short = ap (λ (l : List ℕ). [] ++ empty ++ l) (drop_all 18 old 
 
 abbrev head : List ℕ
 head = magic ++ 0 ∷ 0 ∷ 0 ∷ 0 ∷ 17 ∷ 0 ∷ 0 ∷ 0 ∷ 0 ∷ []
-
-empty_spelled : IsSpelled empty []
-empty_spelled = record {
-  front = head;
-  gate = 0;
-  rest = [];
-  is_front = record { magic_is = refl; long = omega arith; starts = refl };
-  closed = λ no. cc no;
-  each = tt;
-  whole = refl;
-}
 
 pub settled_empty : (new : DiskShown) → new.seen ≡ empty → Only new.seen new.may_leave → IsSettled new (record { start = 17; tail = 17; second = false }) []
 settled_empty new is only = record {

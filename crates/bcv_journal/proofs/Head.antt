@@ -7,7 +7,7 @@ use Rattle.bcv_journal.specs.Layout.{field_of, is_second, start_in}
 pub second-front : (bytes : List ℕ) (start : ℕ) → 17 ≤ start → is_second (take start bytes) ≡ is_second bytes
 second-front bytes start long = ap (λ (n : ℕ). n == 1) (get_or-take start bytes 8 0 (omega (arith, long)))
 
-field-least : (second : Bool) → field_of second + 4 ≤ 17
+pub field-least : (second : Bool) → field_of second + 4 ≤ 17
 field-least true = omega arith
 field-least false = omega arith
 

@@ -1,10 +1,14 @@
 mod Bytes
-mod Append
+pub mod Append
 mod Added
 mod Head
 mod Reader
-mod Unique
+pub mod Unique
 mod Loading
 mod Empty
 mod LoadParts
 mod Appended
+mod Window
+mod Laid
+mod Restarted
+mod Replaced

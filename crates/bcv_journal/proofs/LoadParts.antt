@@ -9,7 +9,7 @@ use Rattle.bcv_disk.specs.DiskShown.{DiskShown, DiskTold}
 use Rattle.bcv_disk.specs.Troubles.{counted}
 use Rattle.bcv_disk.specs.declared.disk.DiskEnd.TheVariants as end
 use Rattle.bcv_journal.specs.KeptWrite.{DiskKeeps}
-use Rattle.bcv_journal.specs.Layout.{IsSpelled, Loads, area_of, empty, found, written}
+use Rattle.bcv_journal.specs.Layout.{IsSpelled, Loads, area_of, empty, found, tail_of, written}
 use Rattle.bcv_journal.specs.Loaded.{load_calls}
 use Rattle.bcv_journal.specs.LoadedItems.{CountsItems, GivesItems, HasArea, IsArea, IsDiskRefusal, ItemsLoad, Outcome, PartLoads}
 use Rattle.bcv_journal.specs.Reading.{IsRead, IsReadFault}
@@ -41,7 +41,7 @@ module _ (told : DiskTold) (old new : DiskShown) (only_now : told.tells → Only
   short_done v none k = record {
     gives = λ t only.
         let is = k.written t refl ∙ put_empty old.seen (short t) in (
-          inl (short t, ap items_of none),
+          inl (short t, ap items_of none, refl),
           subst (λ (items : List (List ℕ)). IsSettled new empty_area items) (sym (ap items_of none)) (settled_empty new is (k.durable t refl)),
           is ∙ sym (found-short old.seen (short t)),
         );
@@ -96,7 +96,7 @@ read_area bytes area items short r = record {
   each = r.spelled.each;
 }
 
-spelled_by : (bytes seen : List ℕ) (items : List (List ℕ)) → seen ≡ bytes → (s : IsSpelled bytes items) → IsSpelled seen items
+abbrev spelled_by : (bytes seen : List ℕ) (items : List (List ℕ)) → seen ≡ bytes → (s : IsSpelled bytes items) → IsSpelled seen items
 spelled_by bytes seen items same s = record { front = s.front; gate = s.gate; rest = s.rest; is_front = s.is_front; closed = s.closed; each = s.each; whole = same ∙ s.whole }
 
 settled_by : (bytes : List ℕ) (new : DiskShown) (area : Area) (items : List (List ℕ)) → new.seen ≡ bytes → length bytes ≤ 2 ^ 31 → IsRead bytes area items → Only new.seen new.may_leave → IsSettled new area items
@@ -135,7 +135,7 @@ module _ (told : DiskTold) (old new : DiskShown) (into filled : List ℕ) (only_
     pub long_done : (result : Outcome) → IfOk result (λ v. IsRead filled v.1 (items_of v.0.items)) → IfErr result (IsReadFault filled) → PartLoads told old new 1 result
     long_done (Ok v) read fault = record {
       gives = λ t only. (
-        inr (omega (arith, ap length (filled_is t), short), spelled_by filled old.seen (items_of v.0.items) (sym (filled_is t)) read.spelled),
+        inr (omega (arith, ap length (filled_is t), short), spelled_by filled old.seen (items_of v.0.items) (sym (filled_is t)) read.spelled, read.tail_is ∙ ap (λ (n : ℕ). tail_of n (items_of v.0.items)) read.start_is),
         settled_by filled new v.1 (items_of v.0.items) (same t) short read (subst (λ (l : List ℕ). Only l new.may_leave) (sym (r.seen t refl)) (leaves t only)),
         r.seen t refl ∙ sym (found-long old.seen (omega (arith, ap length (filled_is t), long))),
       );

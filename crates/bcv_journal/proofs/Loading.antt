@@ -1,17 +1,25 @@
 -- What a crash leaves while a file is loaded.
-use Rattle.std.proofs.Common.{◌≡◌, inl, inr, ⊎_elim, ℕ, ◌≤◌, List, length, Ok, Err, subst, arith}
+use Rattle.std.proofs.Common.{◌≡◌, inl, inr, ⊎_elim, ℕ, ◌≤◌, List, length, Result, Ok, Err, ◌∙◌, subst, arith}
 use Rattle.bcv_disk.specs.Crash.{LeavesOnly, Only, Passes, Through, Torn}
 use Rattle.bcv_disk.specs.Calls.{LeavesOnly-more, LeavesOnly-started, LeavesOnly-then, LeavesOnly-weaker}
 use Rattle.bcv_disk.specs.DiskShown.{DiskShown}
+use Rattle.bcv_journal.specs.Layout.{EndsAt, Loads}
 use Rattle.bcv_journal.specs.Settled.{IsOldOrAlike, LoadsAlike}
-use Rattle.bcv_journal.proofs.Unique.{short_items}
+use Rattle.bcv_journal.proofs.Unique.{short_items, short_tail}
 
 -- whatever a crash makes of a short file while it becomes an empty journal, it loads as before
+empty_loads : (bytes image : List ℕ) → length bytes ≤ 18 → Torn 0 18 bytes image → (outcome : Result (List (List ℕ)) ℕ) → Loads bytes outcome → Loads image outcome
+empty_loads bytes image short torn (Ok items) (inl none) = inl (omega (arith, torn.no_longer, short), none.1)
+empty_loads bytes image short torn (Ok items) (inr whole) = inl (omega (arith, torn.no_longer, short), short_items bytes items whole.1 short)
+empty_loads bytes image short torn (Err place) (inl long) = absurd (omega (arith, long.0, short))
+empty_loads bytes image short torn (Err place) (inr long) = absurd (omega (arith, long.0, short))
+
+empty_ends : (bytes image : List ℕ) → length bytes ≤ 18 → Torn 0 18 bytes image → (items : List (List ℕ)) (tail : ℕ) → EndsAt bytes items tail → EndsAt image items tail
+empty_ends bytes image short torn items tail (inl none) = inl (omega (arith, torn.no_longer, short), none.1, none.2)
+empty_ends bytes image short torn items tail (inr whole) = inl (omega (arith, torn.no_longer, short), short_items bytes items whole.1 short, whole.2 ∙ short_tail bytes items whole.1 short)
+
 pub empty_alike : (bytes image : List ℕ) → length bytes ≤ 18 → Torn 0 18 bytes image → LoadsAlike bytes image
-empty_alike bytes image short torn (Ok items) (inl none) = inl (omega (arith, torn.no_longer, short), none.1)
-empty_alike bytes image short torn (Ok items) (inr whole) = inl (omega (arith, torn.no_longer, short), short_items bytes items whole.1 short)
-empty_alike bytes image short torn (Err place) (inl long) = absurd (omega (arith, long.0, short))
-empty_alike bytes image short torn (Err place) (inr long) = absurd (omega (arith, long.0, short))
+empty_alike bytes image short torn = (empty_loads bytes image short torn, empty_ends bytes image short torn)
 
 module _ (old : DiskShown) (only_now : (image : List ℕ) → old.left_since old.moment image → old.may_leave image) where
   -- before the first call

@@ -4,7 +4,7 @@ use Rattle.std.proofs.lemmas.List.{take_at, drop_at, take-append-le}
 use Rattle.std.proofs.lemmas.Nat.{from_be_bytes-to_be_bytes_4}
 use Rattle.std.specs.Int.{w32, from_be_bytes, to_be_bytes}
 use Rattle.std.specs.List.{AllByRecursion, flat_map}
-use Rattle.bcv_journal.specs.Layout.{BreaksAt, HasItem, HasNoStart, IsFront, IsItem, IsSpelled, Loads, area_of, field_of, is_second, magic, open_item, start_in, tail_of, written}
+use Rattle.bcv_journal.specs.Layout.{BreaksAt, EndsAt, HasItem, HasNoStart, IsFront, IsItem, IsSpelled, Loads, area_of, field_of, is_second, magic, open_item, start_in, tail_of, written}
 use Rattle.bcv_journal.proofs.Head.{second-front, start-front}
 
 -- what stands after the last whole item: a closed gate, or an open one with no whole item after it
@@ -93,7 +93,7 @@ not_both bytes items place s b =
     let same = one_file bytes s.front b.front items b.items (s.gate ∷ s.rest) (1 ∷ b.after) s.is_front b.is_front s.each b.each (spelled_end bytes items s) (breaks_end bytes place b) s.whole b.whole in
     s.closed (cc same.1)
 
-spelled_head : (bytes : List ℕ) (items : List (List ℕ)) (s : IsSpelled bytes items) → (take 8 bytes ≡ magic) × (is_second bytes ≡ is_second s.front) × (start_in bytes (is_second bytes) ≡ length s.front)
+pub spelled_head : (bytes : List ℕ) (items : List (List ℕ)) (s : IsSpelled bytes items) → (take 8 bytes ≡ magic) × (is_second bytes ≡ is_second s.front) × (start_in bytes (is_second bytes) ≡ length s.front)
 spelled_head bytes items s = head_is bytes s.front (area_of items ++ s.gate ∷ s.rest) s.is_front (s.whole ∙ append_assoc s.front (area_of items) (s.gate ∷ s.rest))
 
 breaks_head : (bytes : List ℕ) (place : ℕ) (b : BreaksAt bytes place) → (take 8 bytes ≡ magic) × (is_second bytes ≡ is_second b.front) × (start_in bytes (is_second bytes) ≡ length b.front)
@@ -118,6 +118,25 @@ short_items bytes (item ∷ items) s short =
       length-append (open_item item) (area_of items),
       length-append (to_be_bytes w32 (length item)) item,
     ))
+
+pub short_tail : (bytes : List ℕ) (items : List (List ℕ)) (s : IsSpelled bytes items) → length bytes ≤ 18 → tail_of (length s.front) items ≡ 17
+short_tail bytes items s short =
+    omega (arith, short, s.is_front.long, ap length s.whole, length-append (written s.front items) (s.gate ∷ s.rest), length-append s.front (area_of items))
+
+-- what ends at a tail loads so, and with one tail
+pub ends_load : (bytes : List ℕ) (items : List (List ℕ)) (tail : ℕ) → EndsAt bytes items tail → Loads bytes (Ok items)
+ends_load bytes items tail (inl none) = inl (none.0, none.1)
+ends_load bytes items tail (inr whole) = inr (whole.0, whole.1)
+
+pub ends_once : (bytes : List ℕ) (items : List (List ℕ)) (tail other : ℕ) → EndsAt bytes items tail → EndsAt bytes items other → tail ≡ other
+ends_once bytes items tail other (inl a) (inl b) = a.2 ∙ sym b.2
+ends_once bytes items tail other (inl a) (inr b) = a.2 ∙ sym (b.2 ∙ short_tail bytes items b.1 a.0)
+ends_once bytes items tail other (inr a) (inl b) = a.2 ∙ short_tail bytes items a.1 b.0 ∙ sym b.2
+ends_once bytes items tail other (inr a) (inr b) =
+    let s = a.1 in
+    let t = b.1 in
+    let same = one_file bytes s.front t.front items items (s.gate ∷ s.rest) (t.gate ∷ t.rest) s.is_front t.is_front s.each t.each (spelled_end bytes items s) (spelled_end bytes items t) s.whole t.whole in
+    a.2 ∙ ap (λ (n : ℕ). tail_of n items) same.2 ∙ sym b.2
 
 items_once : (bytes : List ℕ) (xs ys : List (List ℕ)) → Loads bytes (Ok xs) → Loads bytes (Ok ys) → xs ≡ ys
 items_once bytes xs ys (inl a) (inl b) = a.1 ∙ sym b.1

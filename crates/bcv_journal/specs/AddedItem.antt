@@ -16,7 +16,7 @@ longer area more = record area { tail = area.tail + more }
 
 -- a file with these items gets one more
 pub record ItemTells (old new : DiskShown) (area : Area) (item : List ℕ) (result : DiskEnd) (items : List (List ℕ)) : Type 0 where
-  pub any_moment : LeavesOnly old new (IsBeforeOrAfter items item)
+  pub any_moment : LeavesOnly old new (IsBeforeOrAfter items area.tail item)
   pub done : result ≡ Done → IsSettled new (longer area (5 + length item)) (items ++ item ∷ [])
   pub kept : result ≡ NoMemory → IsSettled new area items
 

@@ -94,7 +94,13 @@ abbrev pub IsNoJournal : List ℕ → ℕ → Type 0
 IsNoJournal bytes place = ((2 ^ 31 < length bytes) × (place ≡ 2 ^ 31))
     ⊎ ((18 < length bytes) × (length bytes ≤ 2 ^ 31) × (((take 8 bytes ≢ magic) × (place ≡ 0)) ⊎ (HasNoStart bytes place ⊎ BreaksAt bytes place)))
 
--- what a file loads as: its items, or the place for which it is no journal; a file of at most 18 bytes is an empty journal
+-- what a file loads as: its items, or the place for which it is no journal; a file of at most 18 bytes is an empty
+-- journal
 abbrev pub Loads : List ℕ → Result (List (List ℕ)) ℕ → Type 0
 Loads bytes (Ok items) = ((length bytes ≤ 18) × (items ≡ [])) ⊎ ((length bytes ≤ 2 ^ 31) × IsSpelled bytes items)
 Loads bytes (Err place) = IsNoJournal bytes place
+
+-- the file loads as these items, and this is the place of the closed gate after them; in a new file it is 17
+abbrev pub EndsAt : List ℕ → List (List ℕ) → ℕ → Type 0
+EndsAt bytes items tail =
+    ((length bytes ≤ 18) × (items ≡ []) × (tail ≡ 17)) ⊎ ((length bytes ≤ 2 ^ 31) × (s : IsSpelled bytes items) × (tail ≡ tail_of (length s.front) items))

@@ -8,3 +8,4 @@ pub mod KeptWrite
 pub mod Reading
 pub mod AddedItem
 pub mod LoadedItems
+pub mod Moved

@@ -1,12 +1,12 @@
 -- What a load gives, journal or refusal.
-use Rattle.std.specs.Prelude.{◌≡◌, ℕ, ◌^◌, ◌<◌, ◌≤◌, Bool, false, List, Ok, length, nat_le, if◌then◌else◌}
+use Rattle.std.specs.Prelude.{◌≡◌, ℕ, ◌^◌, ◌<◌, ◌≤◌, Bool, false, List, length, nat_le, if◌then◌else◌}
 use Rattle.std.specs.List.{AllByRecursion}
 use Rattle.bcv_disk.specs.Crash.{LeavesOnly}
 use Rattle.bcv_disk.specs.DiskShown.{DiskShown, DiskTold}
 use Rattle.bcv_disk.specs.DiskCalls.{DiskFails}
 use Rattle.bcv_disk.specs.Troubles.{counted}
 use Rattle.bcv_journal.specs.Answers.{Refuses}
-use Rattle.bcv_journal.specs.Layout.{IsItem, Loads, found, tail_of}
+use Rattle.bcv_journal.specs.Layout.{EndsAt, IsItem, found, tail_of}
 use Rattle.bcv_journal.specs.Parts.{HasItems, is_closed, start_at, tail_at}
 use Rattle.bcv_journal.specs.Settled.{IsOldOrAlike, items_of}
 use Rattle.bcv_journal.specs.declared.fault.JournalFault.TheVariants.{NotJournal, DiskFault, NoMemory}
@@ -21,7 +21,7 @@ disk_in (Refused disk fault) = disk
 -- a journal has the file's items, and nothing is written but a new file's head; a refusal is by the file's bytes
 abbrev pub Gives : {D : Type 0} {g : _} → (D → DiskShown) → List ℕ → Load D g → Type 0
 Gives shown bytes (Ready journal items) =
-    Loads bytes (Ok (items_of items.items)) × HasItems shown journal (items_of items.items) × ((shown journal.disk).seen ≡ found bytes)
+    EndsAt bytes (items_of items.items) (tail_at journal) × HasItems shown journal (items_of items.items) × ((shown journal.disk).seen ≡ found bytes)
 Gives shown bytes (Refused disk fault) = Refuses bytes (shown disk) fault
 
 abbrev pub IsDiskFault : {D : Type 0} {g : _} → Load D g → Type 0

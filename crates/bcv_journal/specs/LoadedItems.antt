@@ -7,7 +7,7 @@ use Rattle.bcv_disk.specs.DiskShown.{DiskShown, DiskTold}
 use Rattle.bcv_disk.specs.DiskCalls.{DiskFails}
 use Rattle.bcv_disk.specs.Troubles.{counted}
 use Rattle.bcv_journal.specs.Answers.{Refuses}
-use Rattle.bcv_journal.specs.Layout.{IsItem, Loads, found, tail_of}
+use Rattle.bcv_journal.specs.Layout.{EndsAt, IsItem, found, tail_of}
 use Rattle.bcv_journal.specs.Settled.{IsOldOrAlike, IsSettled, items_of}
 use Rattle.bcv_journal.specs.declared.area.Area.{Area}
 use Rattle.bcv_journal.specs.declared.fault.JournalFault.{JournalFault}
@@ -30,7 +30,7 @@ HasArea (Err fault) = Unit {0}
 
 -- the items are those of the bytes and the disk has them, or the refusal is by the bytes
 abbrev pub GivesItems : List ℕ → DiskShown → Outcome → Type 0
-GivesItems bytes now (Ok r) = Loads bytes (Ok (items_of r.0.items)) × IsSettled now r.1 (items_of r.0.items) × (now.seen ≡ found bytes)
+GivesItems bytes now (Ok r) = EndsAt bytes (items_of r.0.items) r.1.tail × IsSettled now r.1 (items_of r.0.items) × (now.seen ≡ found bytes)
 GivesItems bytes now (Err fault) = Refuses bytes now fault
 
 abbrev pub IsDiskRefusal : Outcome → Type 0

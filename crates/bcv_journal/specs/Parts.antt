@@ -1,6 +1,7 @@
 -- What a journal is made of, for the contracts of the crates above.
 use Rattle.std.specs.Prelude.{◌≡◌, ℕ, Bool, false, List}
 use Rattle.bcv_disk.specs.DiskShown.{DiskShown}
+use Rattle.bcv_journal.specs.Layout.{EndsAt}
 use Rattle.bcv_journal.specs.Settled.{IsSettled}
 use Rattle.bcv_journal.specs.declared.journal.Journal.{Journal}
 
@@ -23,3 +24,7 @@ is_closed journal = journal.closed
 -- it is open and has these items, all of them on its disk
 abbrev pub HasItems : {D : Type 0} {g : _} → (D → DiskShown) → Journal D g → List (List ℕ) → Type 0
 HasItems shown journal items = (journal.closed ≡ false) × IsSettled (shown journal.disk) journal.area items
+
+-- a crash at this moment leaves these items, which end at this tail
+abbrev pub LeavesItems : DiskShown → List (List ℕ) → ℕ → Type 0
+LeavesItems shown items tail = (image : List ℕ) → shown.may_leave image → EndsAt image items tail

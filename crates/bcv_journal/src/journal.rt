@@ -1,8 +1,10 @@
-ghost use Rattle.std.specs.Prelude.{◌≡◌, ◌↔◌, ◌<◌, ◌≤◌, ◌+◌, ◌^◌, [], ◌∷◌, true, false, Some, List, ℕ, length, IsTrue};
+ghost use Rattle.std.specs.Prelude.{◌≡◌, ◌↔◌, ◌<◌, ◌≤◌, ◌+◌, ◌^◌, [], ◌∷◌, true, false, Some, List, ℕ, length, IsTrue, ◌⊎◌};
 
 use crate::area::Area;
 use crate::item::write_item;
+use crate::layout::whole_area;
 use crate::load::load_items;
+use crate::restart::{place_for, replace};
 use crate::{Load, Noted};
 use bcv_disk::{Disk, DiskEnd, Planned};
 use std::alloc::Global;
@@ -20,9 +22,13 @@ pub struct Journal<D: Disk> {
 }
 
 impl<D: Disk> Journal<D> {
-    ghost use Rattle.bcv_journal.specs.JournalCalls.{JournalAppends};
+    ghost use Rattle.bcv_journal.specs.JournalCalls.{JournalAppends, JournalRestarts};
+    ghost use Rattle.std.specs.List.{AllByRecursion};
+    ghost use Rattle.bcv_journal.specs.Layout.{IsItem};
     ghost use Rattle.bcv_journal.specs.Loaded.{JournalLoads};
-    ghost use Rattle.bcv_journal.specs.Parts.{is_closed, start_at, tail_at};
+    ghost use Rattle.bcv_journal.specs.Moved.{size_of};
+    ghost use Rattle.bcv_journal.specs.Settled.{items_of};
+    ghost use Rattle.bcv_journal.specs.Parts.{HasItems, LeavesItems, is_closed, start_at, tail_at};
 
     /// Loads the journal of a disk: it syncs the disk first, and gives the items in order.
     ///
@@ -64,6 +70,7 @@ impl<D: Disk> Journal<D> {
         ensures start { result.0 ≡ start_at self.now }
         ensures tail { result.1 ≡ tail_at self.now }
         ensures order { (17 ≤ result.0) × (result.0 ≤ result.1) × (result.1 < 2 ^ 31) }
+        ensures leaves { (items : List (List ℕ)) → HasItems D.shown self.now items → LeavesItems (D.shown self.now.disk) items (tail_at self.now) }
     {
         (self.area.start, self.area.tail)
     }
@@ -86,6 +93,40 @@ impl<D: Disk> Journal<D> {
         match write_item(alloc, &mut self.disk, self.area, bytes) {
             DiskEnd::Done => {
                 self.area.tail += 5 + bytes.len() as u64;
+                Noted::Done
+            }
+            DiskEnd::Failed => {
+                self.closed = true;
+                Noted::DiskFault
+            }
+            DiskEnd::NoMemory => Noted::NoMemory,
+        }
+    }
+
+    /// Puts the given items in place of all: before the old ones where they have room there, else after them.
+    ///
+    /// A crash at any moment leaves the old items or the given ones, whole; at `Done` it leaves the given ones alone.
+    /// `Closed` is tested first.
+    pub fn restart(&mut self, alloc: Global, items: &[Vec<u8>]) -> Noted
+        requires each { AllByRecursion IsItem (items_of items.now) }
+        requires room { (18 + size_of (items_of items.now) ≤ start_at self.old)
+            ⊎ (tail_at self.old + 1 + size_of (items_of items.now) + 65 ≤ 2 ^ 31) }
+        ensures { JournalRestarts D.told D.shown self.old self.new (items_of items.now) result }
+    {
+        if self.closed {
+            return Noted::Closed;
+        }
+        let Ok(block) = whole_area(alloc, items) else {
+            return Noted::NoMemory;
+        };
+        let start = place_for(&block, self.area);
+        match replace(alloc, &mut self.disk, self.area, start, &block) {
+            DiskEnd::Done => {
+                self.area = Area {
+                    start,
+                    tail: start + block.len() as u64 - 1,
+                    second: !self.area.second,
+                };
                 Noted::Done
             }
             DiskEnd::Failed => {

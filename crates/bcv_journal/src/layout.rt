@@ -1,8 +1,9 @@
 // The bytes of a journal's file.
-ghost use Rattle.std.specs.Prelude.{◌≡◌, ◌↔◌, ◌<◌, ◌≤◌, ◌+◌, ◌^◌, ◌++◌, [], ◌∷◌, List, ℕ, length, IfOk, IfErr, IsTrue, OnOk, MatchOption, Result, take};
+ghost use Rattle.std.specs.Prelude.{◌≡◌, ◌↔◌, ◌<◌, ◌≤◌, ◌+◌, ◌^◌, ◌++◌, [], ◌∷◌, List, ℕ, length, IfOk, IfErr, IsTrue, OnOk, MatchOption, Result, Ok, take};
 ghost use Rattle.std.specs.Int.{w32, to_be_bytes};
 ghost use Rattle.std.specs.List.{AllByRecursion};
-ghost use Rattle.bcv_journal.specs.Layout.{HasItem, IsItem, Loads, area_of, field_of, magic, open_item, start_in};
+ghost use Rattle.bcv_journal.specs.Layout.{EndsAt, HasItem, IsItem, Loads, area_of, field_of, magic, open_item, start_in};
+ghost use Rattle.bcv_journal.specs.Moved.{selector_of};
 ghost use Rattle.bcv_journal.specs.Settled.{items_of};
 ghost use Rattle.bcv_journal.specs.Reading.{IsRead, IsReadFault, IsShut};
 
@@ -12,12 +13,21 @@ use std::alloc::{AllocError, Global};
 
 pub const MAGIC: [u8; 8] = *b"BCVJRN02";
 
+/// The place of the selector.
+pub const SELECTOR: u64 = 8;
+
 /// An empty journal: the magic, selector 0, the starts 17 and 0, a closed gate.
 pub const EMPTY: [u8; 18] = *b"BCVJRN02\0\0\0\0\x11\0\0\0\0\0";
 
 /// A file loads as one thing: as one list of items, or as no journal for one place.
 pub fn loads_once()
     ensures { (bytes : List ℕ) (a b : Result (List (List ℕ)) ℕ) → Loads bytes a → Loads bytes b → a ≡ b }
+{}
+
+/// What ends at a tail loads so, and with one tail alone.
+pub fn tail_once()
+    ensures loads { (bytes : List ℕ) (items : List (List ℕ)) (tail : ℕ) → EndsAt bytes items tail → Loads bytes (Ok items) }
+    ensures once { (bytes : List ℕ) (items : List (List ℕ)) (tail other : ℕ) → EndsAt bytes items tail → EndsAt bytes items other → tail ≡ other }
 {}
 
 fn has_magic(bytes: &[u8]) -> bool
@@ -32,6 +42,13 @@ pub fn start_field(second: bool) -> u64
     ensures { result ≡ field_of second }
 {
     if second { 13 } else { 9 }
+}
+
+/// The selector that chooses start 1, or start 0.
+pub fn selector(second: bool) -> u8
+    ensures { result ≡ selector_of second }
+{
+    if second { 1 } else { 0 }
 }
 
 /// The start that is chosen in the head of a file.
@@ -109,4 +126,29 @@ pub fn behind_gate(alloc: Global, item: &[u8]) -> Result<Vec<u8>, AllocError>
     bytes.extend_from_slice(item)?;
     bytes.push(0)?;
     Ok(bytes)
+}
+
+/// An area of items: each with its open gate, and a closed gate after them.
+pub fn whole_area(alloc: Global, items: &[Vec<u8>]) -> Result<Vec<u8>, AllocError>
+    requires { AllByRecursion IsItem (items_of items.now) }
+    ensures { IfOk result (λ v. v.items ≡ area_of (items_of items.now) ++ 0 ∷ []) }
+{
+    let mut bytes = Vec::new(alloc);
+    let mut rest = items;
+    while let [item, after @ ..] = rest {
+        push_item(&mut bytes, item)?;
+        rest = after;
+    }
+    bytes.push(0)?;
+    Ok(bytes)
+}
+
+/// Adds an item with its open gate.
+fn push_item(bytes: &mut Vec<u8>, item: &[u8]) -> Result<(), AllocError>
+    requires { length item.now < 2 ^ 32 }
+    ensures { OnOk result (bytes.new.items ≡ bytes.old.items ++ open_item item.now) }
+{
+    bytes.push(1)?;
+    bytes.extend_from_slice(&(item.len() as u32).to_be_bytes())?;
+    bytes.extend_from_slice(item)
 }

@@ -7,3 +7,7 @@ pub mod Pages
 pub mod Placing
 pub mod ReadNotes
 pub mod Uploads
+pub mod KeptSizes
+mod WellKept
+pub mod Refolded
+pub mod KeptGrowth

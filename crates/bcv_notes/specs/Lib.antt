@@ -1,3 +1,4 @@
 pub mod KeptBy
 pub mod NoteGrammar
 pub mod Reading
+pub mod KeptNotes

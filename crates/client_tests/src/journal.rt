@@ -244,3 +244,66 @@ fn the_limit_is_exact(rt: HostRuntime) -> Result<(), Fail> {
     assert_eq!(rt; journal.append(alloc, b"a", 2_147_483_624), Noted::Done);
     Ok(())
 }
+
+// A restart with one item.
+fn restarted(alloc: Global, journal: &mut Journal<MemDisk>, text: &[u8]) -> Result<Noted, Fail> {
+    let (_, tail) = journal.span();
+    if tail > 4096 || text.is_empty() || text.len() > 4096 {
+        return Err(Fail::new("too long"));
+    }
+    let mut items = Vec::new(alloc);
+    items.push(text.to_vec(alloc)?)?;
+    Ok(journal.restart(alloc, &items))
+}
+
+// How many items a journal's disk loads as after its troubles.
+fn items_left(alloc: Global, journal: Journal<MemDisk>) -> Result<usize, Fail> {
+    let mut disk = journal.down();
+    disk.mend();
+    match Journal::load(alloc, disk) {
+        Load::Ready(_, items) => Ok(items.len()),
+        Load::Refused(_, _) => Err(Fail::new("refused")),
+    }
+}
+
+#[test]
+fn a_restart_moves_the_items(rt: HostRuntime) -> Result<(), Fail> {
+    let alloc = rt.alloc();
+    let (mut journal, _) = loaded(alloc, &THREE)?;
+    assert_eq!(rt; restarted(alloc, &mut journal, b"xy")?, Noted::Done);
+    assert_eq!(rt; journal.span(), (40, 47));
+    assert_eq!(rt; restarted(alloc, &mut journal, b"z")?, Noted::Done);
+    assert_eq!(rt; journal.span(), (17, 23));
+    assert_eq!(rt; journal.append(alloc, b"a", 64), Noted::Done);
+    assert_eq!(rt; items_left(alloc, journal)?, 2);
+    Ok(())
+}
+
+#[test]
+fn each_call_of_a_restart_fails(rt: HostRuntime) -> Result<(), Fail> {
+    let alloc = rt.alloc();
+    for calls in 0..5_u32 {
+        let (mut journal, _) = loaded(alloc, &THREE)?;
+        journal.fail(calls);
+        assert_eq!(rt; restarted(alloc, &mut journal, b"xy")?, Noted::DiskFault);
+        assert_eq!(rt; restarted(alloc, &mut journal, b"xy")?, Noted::Closed);
+        let left = items_left(alloc, journal)?;
+        assert!(rt; left == 3 || left == 1);
+    }
+    Ok(())
+}
+
+#[test]
+fn each_call_of_a_restart_crashes(rt: HostRuntime) -> Result<(), Fail> {
+    let alloc = rt.alloc();
+    for calls in 0..5_u32 {
+        for image in 0..5_u8 {
+            let (mut journal, _) = loaded(alloc, &SECOND)?;
+            journal.fuse(calls, image);
+            assert_eq!(rt; restarted(alloc, &mut journal, b"xy")?, Noted::DiskFault);
+            let left = items_left(alloc, journal)?;
+            assert!(rt; left == 3 || (left == 1 && 3 <= calls));
+        }
+    }
+    Ok(())
+}

@@ -1,4 +1,4 @@
-//! Tests of the public calls of what a client is made of: its disk, journal and notes, its cache, its local pages, byte ranges
+//! Tests of the public calls of what a client is made of: its disk, journal, notes and log, its cache, its local pages, byte ranges
 //! and the keep rule.
 //!
 //! They stand in a crate of their own, so that no crate below is proved once more for its tests. A test shows that calls
@@ -7,6 +7,8 @@
 
 #[cfg(test)]
 mod cache;
+#[cfg(test)]
+mod clientlog;
 #[cfg(test)]
 mod disk;
 #[cfg(test)]

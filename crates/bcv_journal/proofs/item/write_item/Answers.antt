@@ -1,6 +1,11 @@
 use Rattle.std.proofs.Common.{◌+◌, List, ℕ, ◌∙◌, arith}
-use Rattle.bcv_journal.proofs.Added.{added_both, added_failed, added_starved}
+use Rattle.bcv_journal.proofs.Added.{added_both, added_failed, added_none, added_starved}
 use Rattle.bcv_journal.proofs.item.write_item.Goals as goal
+
+pub returns-in_default : goal.returns-in_default
+returns-in_default g c =
+    let d = g.D.Disk in
+    added_none d.told (d.shown c.args.disk.now) c.args.area c.args.item.now (c.requires.some, omega (arith, c.requires.fits)) c.requires.fits c.requires.from (g.met.D.Disk.only_now c.args.disk.now)
 
 pub returns-in-Done : goal.returns-in-Done
 returns-in-Done g c =

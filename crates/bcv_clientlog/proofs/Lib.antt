@@ -1,0 +1,6 @@
+mod Held
+mod Compacting
+mod Trying
+mod Adding
+mod LogNoted
+mod LoadedLog
