@@ -7,5 +7,6 @@ mod OneState
 mod Publishing
 mod Refused
 mod Single
+mod TxnRuns
 mod TxnsStay
 mod Versions

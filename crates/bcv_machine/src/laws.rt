@@ -1,7 +1,7 @@
 ghost use Rattle.bcv_machine.specs.CommitLaw.{CommitsLeaveOnly, CommitsLeaveOnlyInRuns};
 ghost use Rattle.bcv_machine.specs.OneStateLaw.{OneStateFollows};
 ghost use Rattle.bcv_machine.specs.SingleLaw.{StaysSingle, AlwaysSingle};
-ghost use Rattle.bcv_machine.specs.TxnLaw.{ImagesStay};
+ghost use Rattle.bcv_machine.specs.TxnLaw.{ImagesStay, ImagesStayInRuns};
 ghost use Rattle.bcv_machine.specs.VersionLaw.{VersionsGrow, VersionsStay};
 
 /// What is said of an event, with the drawn id and the note that failed, decides the state after it, but at a client's
@@ -27,7 +27,8 @@ pub fn commits_leave_only_told()
 /// A transaction's image never changes after its begin, whatever its own client or another one does: while it is open,
 /// nothing of it changes but which blocks it holds.
 pub fn images_stay()
-    ensures { ImagesStay }
+    ensures step { ImagesStay }
+    ensures run { ImagesStayInRuns }
 {}
 
 /// A client never has two publications at a time, running or pending: the pending one is the one that runs, once its

@@ -1,0 +1,16 @@
+pub mod SeenKept
+pub mod KeptLaws
+pub mod SeenContainer
+pub mod BaseLaws
+pub mod Parts
+pub mod SeenClient
+pub mod Fits
+pub mod GrowthLaws
+pub mod Journaled
+pub mod NoteSides
+pub mod GoneLaws
+pub mod KnownLaws
+pub mod PartRefusals
+pub mod PollSides
+pub mod PutLaws
+pub mod StampLaws

@@ -1,0 +1,14 @@
+//! What a client stands for.
+//!
+//! A client is seen as a client of the machine, by one function of what it keeps in memory and of the store's log. This crate
+//! has these functions and the laws on them, and is what the client's steps are said with. It stands on the machine and on the
+//! notes of a client's log.
+#![tactic(auto)]
+
+mod laws;
+
+pub use laws::{
+    base_is_database, base_stays, growth_is_harmless, known_is_known, notes_are_steps,
+    notes_are_the_machines, notes_have_sizes, notes_keep_order, outlived_may_be_gone,
+    polls_are_the_machines, puts_are_edits, refusals_are_the_machines, stamps_are_moments,
+};
