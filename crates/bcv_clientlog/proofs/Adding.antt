@@ -25,20 +25,10 @@ use Rattle.bcv_notes.proofs.Folded.{notes_then}
 use Rattle.bcv_notes.proofs.NoteSizes.{note_len}
 use Rattle.bcv_clientlog.specs.AddedNote.{reach}
 use Rattle.bcv_clientlog.specs.LogParts.{LoadsAs, LoadsUpTo}
-use Rattle.bcv_clientlog.specs.Noting.{spare_after}
+use Rattle.bcv_clientlog.specs.Noting.{spare_after, waits_by}
 use Rattle.bcv_clientlog.proofs.Held.{area_is, at_rest}
 
 -- ---- what a note leaves pending, and the room that is needed after it
-
--- whether a publication is pending after a note
-abbrev pub waits_by : Note → Bool → Bool
-waits_by (Me id) b = b
-waits_by (First entry number block c) b = b
-waits_by (Committed db c) b = b
-waits_by (Intent p) b = true
-waits_by (Done id number) b = false
-waits_by (Void id) b = false
-waits_by (Revert db) b = b
 
 -- a publication that ends was pending
 ended : (P : Kept → Type 0) (k : Kept) (id : Id16) (number : ℕ) → IsPendingAs k.pending id → ((p : PendingPub) → P (kept_published number k (Some p))) → P (kept_published number k k.pending)

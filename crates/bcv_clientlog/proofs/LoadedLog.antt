@@ -229,7 +229,7 @@ module _ {D : Type 0} {g : _} (told : DiskTold) (shown : D → DiskShown) (disk 
               let ends = (j.loaded t).0 in
               let reached = its_reach (shown disk).seen items (tail_at journal) ends other most l in
               (fold_once items k other are (its_notes (shown disk).seen items (tail_at journal) ends other most l), omega (arith, ap tail_at same, ap start_at same, area_is shown journal items (j.loaded t).1, reached));
-          is_open = ap is_closed same ∙ j.is_open.0;
+          is_open = (ap is_closed same ∙ j.is_open.0, waits, subst (λ (i : Journal D g). HasRoom k (tail_at i)) (sym same) room);
           any_moment = λ t. subst (λ (d : D). LeavesOnly (shown disk) (shown d) (IsOldOrSame (shown disk))) disk_same (same_moments shown disk journal.disk (j.any_moment t));
           fails = subst (λ (d : D). DiskFails told (shown disk) (shown d) ⊥) disk_same (fails_as (λ fault. fault));
           calls = λ t u. ap (λ (d : D). (shown d).trouble.calls) (sym disk_same) ∙ j.calls t u;

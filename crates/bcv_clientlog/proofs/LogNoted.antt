@@ -27,11 +27,11 @@ use Rattle.bcv_notes.proofs.KeptGrowth.{size_grows}
 use Rattle.bcv_clientlog.specs.AddedNote.{AddsAfter, AddsText, CompactTells, CompactsText, CompactsThen, IsDenseWhere, IsUntried, JournalCompacts, Text, reach}
 use Rattle.bcv_clientlog.specs.Compaction.{Compacts, MovesTo}
 use Rattle.bcv_clientlog.specs.LogParts.{Holds, LoadsAs, LoadsUpTo, is_shut, log_area, log_disk, log_start, log_tail, size_kept}
-use Rattle.bcv_clientlog.specs.Noting.{CompactNoteTells, LogCompacts, LogNotes, LogPlans, NoteLeaves, NoteTells, spare_after}
+use Rattle.bcv_clientlog.specs.Noting.{CompactNoteTells, LogCompacts, LogNotes, LogPlans, NoteLeaves, NoteTells, spare_after, waits_by}
 use Rattle.bcv_clientlog.specs.declared.log.ClientLog.{ClientLog}
 use Rattle.bcv_clientlog.proofs.Held.{room_moved}
 use Rattle.bcv_clientlog.proofs.Adding as adding
-use Rattle.bcv_clientlog.proofs.Adding.{OnlyNow, after_waits, waits_by}
+use Rattle.bcv_clientlog.proofs.Adding.{OnlyNow, after_waits}
 
 done_or_not : (r : Noted) → (r ≡ Done) ⊎ (r ≢ Done)
 done_or_not Done = inl refl
@@ -87,6 +87,8 @@ module _ {D : Type 0} {g : _} (told : DiskTold) (shown : D → DiskShown) (only_
     stays = λ closed. ap disk_of u.0;
     full = λ full. ⊎_elim (λ closed. absurd (cc (full, closed.0))) (λ none. absurd (cc (full, none.0))) u.1;
     room = λ done. ⊎_elim (λ closed. absurd (cc (done, closed.0))) (λ none. absurd (cc (done, none.0))) u.1;
+    waits = waits;
+    still = still;
     fails = subst (λ (j : Journal D g). DiskFails told (shown (log_disk old)) (shown (disk_of j)) (result ≡ DiskFault)) (sym u.0)
         (DiskFails-none told (shown (log_disk old)) (λ fault. ⊎_elim (λ closed. cc (fault, closed.0)) (λ none. cc (fault, none.0)) u.1));
   }
@@ -134,6 +136,8 @@ module _ {D : Type 0} {g : _} (told : DiskTold) (shown : D → DiskShown) (only_
           stays = λ closed. a.refused (inl closed);
           full = λ full. omega (arith, (a.full.0 full).1, a.tail_stays (λ done. cc (done, full)), ap length bytes_is);
           room = room.1;
+          waits = waits;
+          still = still;
           fails = a.fails;
         }
 
@@ -214,6 +218,8 @@ module _ {D : Type 0} {g : _} (told : DiskTold) (shown : D → DiskShown) (only_
               stays = λ closed. absurd (c.not_closed (sym ended ∙ closed));
               full = λ full. absurd (c.not_full (sym ended ∙ full));
               room = λ done. absurd (other done);
+              waits = waits;
+              still = still;
               fails = subst (λ (j : Journal D g). DiskFails told (shown (log_disk old)) (shown (disk_of j)) (result ≡ DiskFault)) (sym same)
                   (DiskFails-as told (shown (log_disk old)) (shown (disk_of mid)) (λ fault. sym ended ∙ fault) (λ fault. ended ∙ fault) c.fails);
             };
@@ -260,6 +266,8 @@ module _ {D : Type 0} {g : _} (told : DiskTold) (shown : D → DiskShown) (only_
               stays = λ closed. absurd (shut_mid (a.closed.0 closed));
               full = λ full. omega (arith, (a.full.0 full).1, a.tail_stays (λ done. cc (done, full)), ap length bytes_is);
               room = (append_room told shown mid new.journal result bytes (spare_after x) a).1;
+              waits = waits;
+              still = still;
               fails = DiskFails-then told (shown (log_disk old)) (shown (disk_of mid)) (shown (log_disk new)) (λ fault. absurd (cc fault)) c.fails a.fails;
             };
             tells = λ t h may.
@@ -361,3 +369,8 @@ brief_done text id number is_id is = brief_text text (note_text (note.Done id nu
 
 pub brief_void : (text : Text) (id : Id16) → IsId id → IfOk text (λ v. v.items ≡ note_text (note.Void id)) → IfOk text (λ v. length v.items ≤ 58)
 brief_void text id is_id is = brief_text text (note_text (note.Void id)) (omega (arith, is_id.len)) is
+
+-- the client's id has room where the rule on a log without it holds
+pub id_fits : {D : Type 0} {g : _} (told : DiskTold) (shown : D → DiskShown) (old new : Journal D g) (text : Text) (id : Id16) (result : Noted) → AddsText told shown old new text 64 result → IsId id → IfOk text (λ v. v.items ≡ note_text (note.Me id)) → tail_at old + 87 ≤ 2 ^ 31 → result ≢ JournalFull
+id_fits told shown old new (Ok v) id result a is_id is free full = omega (arith, (a.full.0 full).1, ap length is, is_id.len, free)
+id_fits told shown old new (Err e) id result u is_id is free full = ⊎_elim (λ closed. cc (full, closed.0)) (λ none. cc (full, none.0)) u.1

@@ -1,5 +1,5 @@
 -- What a load of a client's log promises.
-use Rattle.std.specs.Prelude.{◌≡◌, ◌⊎◌, ℕ, ◌+◌, ◌≤◌, false, List, Err, drop}
+use Rattle.std.specs.Prelude.{◌≡◌, ◌⊎◌, ℕ, ◌+◌, ◌≤◌, false, List, Err, drop, is_some}
 use Rattle.bcv_disk.specs.Crash.{LeavesOnly, Only}
 use Rattle.bcv_disk.specs.DiskShown.{DiskShown, DiskTold}
 use Rattle.bcv_disk.specs.DiskCalls.{DiskFails}
@@ -14,7 +14,7 @@ use Rattle.bcv_notes.specs.KeptBy.{AreNotes, StopsAt}
 use Rattle.bcv_notes.specs.KeptNotes.{items_size}
 use Rattle.bcv_clientlog.specs.declared.load.LogLoad.{LogLoad}
 use Rattle.bcv_clientlog.specs.declared.load.LogLoad.TheVariants.{Ready, Refused}
-use Rattle.bcv_clientlog.specs.LogParts.{Holds, LoadsAs, is_shut, log_area, log_disk, log_tail}
+use Rattle.bcv_clientlog.specs.LogParts.{Holds, LoadsAs, is_shut, is_waiting, log_area, log_disk, log_tail}
 
 -- the disk that a load hands on or back
 abbrev pub loaded_disk : {D : Type 0} {g : _} → LogLoad D g → D
@@ -64,9 +64,9 @@ abbrev pub LoadFails : {D : Type 0} {g : _} → LogLoad D g → Type 0
 LoadFails (Ready log kept) = ⊥
 LoadFails (Refused disk fault) = fault ≡ DiskFault
 
--- a log that was loaded takes notes
+-- whatever the disk, a log that was loaded takes notes, and has the room that what is kept needs
 abbrev pub TakesNotes : {D : Type 0} {g : _} → LogLoad D g → Type 0
-TakesNotes (Ready log kept) = is_shut log ≡ false
+TakesNotes (Ready log kept) = (is_shut log ≡ false) × (is_waiting log ≡ is_some kept.pending) × HasRoom kept (log_tail log)
 TakesNotes (Refused disk fault) = Unit {0}
 
 -- the image was possible before, or loads as the file does

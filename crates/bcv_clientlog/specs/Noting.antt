@@ -1,5 +1,5 @@
 -- What a call that notes something promises, from the log before the call and after it.
-use Rattle.std.specs.Prelude.{◌≡◌, ◌≢◌, ◌⊎◌, ◌↔◌, ℕ, ◌+◌, ◌*◌, ◌^◌, ◌<◌, ◌≤◌, true, [], ◌∷◌, length}
+use Rattle.std.specs.Prelude.{◌≡◌, ◌≢◌, ◌⊎◌, ◌↔◌, ℕ, ◌+◌, ◌*◌, ◌^◌, ◌<◌, ◌≤◌, Bool, true, false, [], ◌∷◌, length}
 use Rattle.bcv_disk.specs.Crash.{LeavesOnly}
 use Rattle.bcv_disk.specs.DiskShown.{DiskShown, DiskTold, Trouble}
 use Rattle.bcv_disk.specs.DiskCalls.{DiskFails, DiskPlans}
@@ -25,6 +25,16 @@ spare_after (note.Done id number) = 0
 spare_after (note.Void id) = 0
 spare_after (note.Revert db) = 64
 
+-- whether a publication is pending after a note
+abbrev pub waits_by : Note → Bool → Bool
+waits_by (note.Me id) b = b
+waits_by (note.First entry number block c) b = b
+waits_by (note.Committed db c) b = b
+waits_by (note.Intent p) b = true
+waits_by (note.Done id number) b = false
+waits_by (note.Void id) b = false
+waits_by (note.Revert db) b = b
+
 -- whatever the disk: when a call is refused, and what it leaves
 pub record NoteLeaves {D : Type 0} {g : _} (told : DiskTold) (shown : D → DiskShown) (old new : ClientLog D g) (x : Note) (result : Noted) : Type 0 where
   pub closed : (result ≡ Closed) ↔ (is_shut old ≡ true)
@@ -34,6 +44,8 @@ pub record NoteLeaves {D : Type 0} {g : _} (told : DiskTold) (shown : D → Disk
   -- the note, its gate and what stays free would pass the limit of a file, and only then is it full
   pub full : result ≡ JournalFull → 2 ^ 31 < log_tail new + 6 + length (note_text x) + spare_after x
   pub room : result ≡ Done → log_tail new + 1 + spare_after x ≤ 2 ^ 31
+  pub waits : result ≡ Done → is_waiting new ≡ waits_by x (is_waiting old)
+  pub still : result ≢ Done → is_waiting new ≡ is_waiting old
   pub fails : DiskFails told (shown (log_disk old)) (shown (log_disk new)) (result ≡ DiskFault)
 
 -- a note that may stand where this is kept; it goes after notes that begin and end there, in so many calls of the

@@ -33,10 +33,12 @@ impl<D: Disk> ClientLog<D> {
     ghost use Rattle.bcv_clientlog.specs.LogParts.{Holds, LoadsAs, is_shut, is_waiting, log_area, log_disk, log_tail};
     ghost use Rattle.bcv_clientlog.specs.Noting.{LogCompacts, LogNotes};
 
-    /// Notes the client's id, as the first note.
+    /// Notes the client's id, as the first note. A log that was loaded without it has room for it.
     pub fn me(&mut self, alloc: Global, id: &Id16) -> Noted
-        ensures { LogNotes D.told D.shown self.old self.new (Me id.now) result }
+        ensures notes { LogNotes D.told D.shown self.old self.new (Me id.now) result }
+        ensures fits { log_tail self.old + 87 ≤ 2 ^ 31 → result ≢ Noted.JournalFull }
     {
+        let _ = id.bytes();
         self.dense = false;
         add(alloc, &mut self.journal, me_note(alloc, id), SPARE)
     }
