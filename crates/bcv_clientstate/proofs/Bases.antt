@@ -1,25 +1,22 @@
 -- Bases in the machine's words, and that they stay.
-use Rattle.std.proofs.Common.{◌≡◌, ◌∙◌, ℕ, zero, suc, ◌≤◌, ◌-◌, ◌==◌, Bool, true, false, cond, List, [], ◌∷◌, ◌++◌, map, length, take, drop, Option, Some, None, slice_get, inl, inr, refl, sym, ap, subst, arith}
+use Rattle.std.proofs.Common.{◌≡◌, ◌∙◌, ℕ, zero, suc, ◌-◌, Bool, cond, List, [], ◌∷◌, length, drop, Some, None, slice_get, inl, inr, refl, sym, ap, subst, arith}
 use Rattle.std.proofs.lemmas.Bool.{ne_eqb}
 use Rattle.std.specs.Prelude.{option_and_then}
 use Rattle.std.specs.Option.{option_map}
 use Rattle.bcv_base.specs.declared.log.Entry.{Entry}
-use Rattle.bcv_base.specs.declared.manifest.DbEntry.{DbEntry}
 use Rattle.bcv_base.specs.declared.manifest.Manifest.{Manifest}
 use Rattle.bcv_base.specs.History.{Item, BlockPut, Published, Unreadable, BlockDeleted, ManifestDeleted, item_of, history_after, history_of, last_of}
 use Rattle.bcv_base.specs.HistoryLaws.{history_after-append}
-use Rattle.bcv_base.specs.Image.{Page}
 use Rattle.bcv_base.specs.Joined.{database_of, pages_of}
 use Rattle.bcv_base.specs.Keyed.{keyed}
 use Rattle.bcv_base.specs.ManifestRules.{db_name}
-use Rattle.bcv_base.specs.Version.{Database, Version, the_name}
+use Rattle.bcv_base.specs.Version.{Version, the_name}
 use Rattle.bcv_base.specs.Versions.{version_of, versions_of}
 use Rattle.bcv_dbmap.specs.ManifestLaws.{IsVersionOf}
 use Rattle.bcv_dbmap.specs.Outlived.{IsPublished}
-use Rattle.bcv_dbmap.specs.Sound.{Sound}
 use Rattle.bcv_machine.specs.State.{Container, database_at, version_at}
 use Rattle.bcv_clientstate.specs.BaseLaws.{BaseHasBlock, BaseIsDatabase, BaseStays}
-use Rattle.bcv_clientstate.specs.SeenContainer.{HasBase, block_in, container_of}
+use Rattle.bcv_clientstate.specs.SeenContainer.{block_in, container_of}
 use Rattle.bcv_dbmap.proofs.ManifestLaws.{published_is_up_to, published_is_version}
 use Rattle.bcv_clientstate.proofs.KeyedMaps.{keyed_map}
 

@@ -1,5 +1,5 @@
 -- Why a block of a base is gone, in the machine's words.
-use Rattle.std.proofs.Common.{◌≡◌, ◌⊎◌, ◌∙◌, ◌≤◌, ◌<◌, ◌+◌, ℕ, Bool, true, false, not, cond, max, List, [], ◌∷◌, ◌++◌, map, Option, Some, None, inl, inr, refl, sym, ap, subst, arith}
+use Rattle.std.proofs.Common.{◌≡◌, ◌∙◌, ◌≤◌, ◌<◌, ℕ, true, not, max, List, [], ◌∷◌, ◌++◌, Option, Some, None, inl, inr, refl, sym, ap, subst, arith}
 use Rattle.std.proofs.lemmas.Option.{same_Some}
 use Rattle.std.specs.Option.{option_map}
 use Rattle.std.specs.Str.{bytes_eq}
@@ -7,19 +7,18 @@ use Rattle.bcv_base.specs.declared.id.Id16.{Id16}
 use Rattle.bcv_base.specs.declared.manifest.DbEntry.{DbEntry}
 use Rattle.bcv_base.specs.declared.manifest.Manifest.{Manifest}
 use Rattle.bcv_base.specs.History.{Item, BlockPut, Published, Unreadable, BlockDeleted, ManifestDeleted, Always, count_of}
-use Rattle.bcv_base.specs.Ids.{has_id, id_eq}
+use Rattle.bcv_base.specs.Ids.{id_eq}
 use Rattle.bcv_base.specs.Joined.{database_of}
 use Rattle.bcv_base.specs.Keyed.{keyed}
 use Rattle.bcv_base.specs.ManifestRules.{db_name}
-use Rattle.bcv_base.specs.Version.{Database, Version, the_name}
+use Rattle.bcv_base.specs.Version.{the_name}
 use Rattle.bcv_base.specs.Versions.{IsVersion, Reads, version_of}
 use Rattle.bcv_dbmap.specs.Outlived.{IsDeletedIn, IsGone, IsPublished}
 use Rattle.bcv_dbmap.specs.Past.{IsAmong}
-use Rattle.bcv_dbmap.specs.Sound.{Sound}
-use Rattle.bcv_machine.specs.Gone.{MayBeGone, is_other}
+use Rattle.bcv_machine.specs.Gone.{is_other}
 use Rattle.bcv_machine.specs.MiddleStep.{swept_at}
-use Rattle.bcv_clientstate.specs.GoneLaws.{IsOutlived, OutlivedMayBeGone}
-use Rattle.bcv_clientstate.specs.SeenContainer.{HasBase, container_of, retention_in, swept_of}
+use Rattle.bcv_clientstate.specs.GoneLaws.{OutlivedMayBeGone}
+use Rattle.bcv_clientstate.specs.SeenContainer.{retention_in, swept_of}
 use Rattle.bcv_dbmap.proofs.Chosen.{same_id}
 use Rattle.bcv_dbmap.proofs.Keys.{by_test, keyed_here, keyed_there}
 use Rattle.bcv_dbmap.proofs.ManifestLaws.{published_is_up_to, published_is_version}

@@ -1,5 +1,5 @@
 -- A client under entries that others append.
-use Rattle.std.proofs.Common.{◌≡◌, ◌⊎◌, ◌∙◌, ◌≤◌, ◌+◌, ℕ, Bool, true, false, List, [], ◌∷◌, ◌++◌, map, length, Option, Some, None, IfSome, inl, inr, refl, sym, ap, subst, arith}
+use Rattle.std.proofs.Common.{◌≡◌, ◌∙◌, ◌≤◌, ℕ, true, List, [], ◌∷◌, ◌++◌, map, Option, Some, None, IfSome, inl, inr, refl, sym, ap, subst, arith}
 use Rattle.std.proofs.lemmas.Option.{same_Some}
 use Rattle.std.specs.Option.{option_map}
 use Rattle.std.specs.List.{AllByRecursion, flat_map}
@@ -16,24 +16,21 @@ use Rattle.bcv_base.specs.Joined.{database_of}
 use Rattle.bcv_base.specs.Keyed.{keyed}
 use Rattle.bcv_base.specs.ManifestRules.{db_name}
 use Rattle.bcv_base.specs.Version.{Database, Version, the_name}
-use Rattle.bcv_base.specs.Versions.{version_of}
 use Rattle.bcv_cache.specs.Entry as cache
 use Rattle.bcv_dbmap.specs.Growth.{AreLawful, IsUntouched}
 use Rattle.bcv_dbmap.specs.Kept.{IsKept}
 use Rattle.bcv_dbmap.specs.Outlived.{IsPublished}
-use Rattle.bcv_dbmap.specs.Past.{has_version, last_own}
 use Rattle.bcv_dbmap.specs.Sound.{IsSoundLog}
 use Rattle.bcv_machine.specs.State as m
 use Rattle.bcv_model.specs.declared.kept.Kept.{Kept}
 use Rattle.bcv_model.specs.declared.kept.PendingPub.{PendingPub}
-use Rattle.bcv_model.specs.declared.kept.Uploading.{Uploading}
 use Rattle.bcv_model.specs.declared.kept.Local.{Local}
 use Rattle.bcv_publish.specs.State as publish
 use Rattle.bcv_clientstate.specs.BaseLaws.{FitsLocal}
-use Rattle.bcv_clientstate.specs.Fits.{Fits, FitsEntry, FitsJob, FitsKnown, FitsPending, FitsPublish, FitsSeen, FitsTask, FitsTxn, IsMade}
+use Rattle.bcv_clientstate.specs.Fits.{FitsEntry, FitsJob, FitsKnown, FitsPending, FitsPublish, FitsSeen, FitsTask, FitsTxn}
 use Rattle.bcv_clientstate.specs.GrowthLaws.{GrowthFits, GrowthLeavesClient}
 use Rattle.bcv_clientstate.specs.Parts.{Known, OpenTxn, Job, Fetching, Polling, Creating, Copying, Uploading as Uploads, Cleaning, Resolving, Task, Parts, mine_of, names_of_job, names_of_pending}
-use Rattle.bcv_clientstate.specs.SeenClient.{Free, seen_client, seen_txn, seen_up}
+use Rattle.bcv_clientstate.specs.SeenClient.{seen_client, seen_txn, seen_up}
 use Rattle.bcv_clientstate.specs.SeenContainer.{HasBase}
 use Rattle.bcv_dbmap.proofs.KeptLaws.{kept_longer}
 use Rattle.bcv_dbmap.proofs.OthersLaws.{others_leave_mine}

@@ -2,30 +2,27 @@
 use Rattle.std.proofs.Common.{◌≡◌, ◌∙◌, ℕ, Bool, true, false, not, cond, List, [], ◌∷◌, map, Option, Some, None, is_some, inl, inr, refl, sym, ap, subst}
 use Rattle.std.specs.Prelude.{filter}
 use Rattle.std.specs.Option.{option_map}
-use Rattle.std.specs.Str.{bytes_eq}
 use Rattle.std.specs.List.{AllByRecursion}
 use Rattle.bcv_base.specs.declared.manifest.DbEntry.{DbEntry}
 use Rattle.bcv_base.specs.declared.manifest.Manifest.{Manifest}
-use Rattle.bcv_base.specs.History.{Item, Published, Always}
+use Rattle.bcv_base.specs.History.{Item, Always}
 use Rattle.bcv_base.specs.Joined.{database_of}
 use Rattle.bcv_base.specs.Keyed.{keyed}
 use Rattle.bcv_base.specs.ManifestRules.{Ascends, IsAbove, MeetsRules, db_name}
 use Rattle.bcv_base.specs.Version.{Database}
-use Rattle.bcv_base.specs.Versions.{Reads, version_of}
+use Rattle.bcv_base.specs.Versions.{Reads}
 use Rattle.bcv_dbmap.specs.Outlived.{IsPublished}
-use Rattle.bcv_dbmap.specs.Sound.{Sound}
 use Rattle.bcv_machine.specs.State as m
 use Rattle.bcv_machine.specs.State.{local_name}
 use Rattle.bcv_model.specs.declared.kept.Kept.{Kept}
 use Rattle.bcv_model.specs.declared.kept.Local.{Local}
 use Rattle.bcv_model.specs.Notes.{kept_name}
 use Rattle.bcv_clientstate.specs.Fits.{FitsKnown, known_name}
-use Rattle.bcv_clientstate.specs.KnownLaws.{AreKnown, KnownFits, KnownIsKnown, has_none, known_in, known_of}
+use Rattle.bcv_clientstate.specs.KnownLaws.{KnownFits, KnownIsKnown, has_none, known_in}
 use Rattle.bcv_clientstate.specs.Parts.{Known}
 use Rattle.bcv_clientstate.specs.SeenClient.{seen_known}
-use Rattle.bcv_clientstate.specs.SeenContainer.{HasBase}
 use Rattle.bcv_clientstate.specs.SeenKept.{seen_kept, seen_local}
-use Rattle.bcv_dbmap.proofs.Keys.{by_test, above_found, behind_other, before_other, key_same, keyed_here, keyed_there}
+use Rattle.bcv_dbmap.proofs.Keys.{above_found, before_other, key_same, keyed_here, keyed_there}
 use Rattle.bcv_clientstate.proofs.KeyedMaps.{keyed_map}
 
 some_map : (o : Option Local) → is_some (option_map seen_local o) ≡ is_some o

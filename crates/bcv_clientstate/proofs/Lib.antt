@@ -1,14 +1,14 @@
-mod KeyedMaps
-mod PartRefusals
-mod PollSides
-mod PutLaws
+pub mod KeyedMaps
+pub mod PartRefusals
+pub mod PollSides
+pub mod PutLaws
 mod Replaced
-mod KnownLaws
-mod NoteLaws
-mod NoteSides
-pub mod Noting
-mod Bases
-mod GoneLaws
-mod Growth
-mod SizeLaws
-mod Stamps
+pub mod KnownLaws
+pub mod NoteLaws
+pub mod NoteSides
+pub mod NotesTried
+pub mod Bases
+pub mod GoneLaws
+pub mod Growth
+pub mod SizeLaws
+pub mod Stamps

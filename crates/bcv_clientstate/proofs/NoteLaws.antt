@@ -1,5 +1,5 @@
 -- What is kept after a note, in the machine's words.
-use Rattle.std.proofs.Common.{◌≡◌, ◌∙◌, ℕ, Bool, true, false, cond, List, [], ◌∷◌, ◌++◌, map, drop, Option, Some, None, IfSome, refl, sym, ap, subst}
+use Rattle.std.proofs.Common.{◌≡◌, ◌∙◌, ℕ, List, [], ◌∷◌, ◌++◌, map, drop, Option, Some, None, IfSome, refl, sym, ap, subst}
 use Rattle.std.specs.Option.{option_map}
 use Rattle.std.proofs.lemmas.List.{map-append, drop-map}
 use Rattle.std.proofs.Math.Seq.{drop-nil}
@@ -11,16 +11,14 @@ use Rattle.bcv_model.specs.declared.kept.Kept.{Kept}
 use Rattle.bcv_model.specs.declared.kept.Local.{Local}
 use Rattle.bcv_model.specs.declared.kept.PendingPub.{PendingPub}
 use Rattle.bcv_model.specs.declared.kept.Uploading.{Uploading}
-use Rattle.bcv_model.specs.declared.note.Note as bytes
 use Rattle.bcv_model.specs.declared.note.Note.TheVariants as note
 use Rattle.bcv_model.specs.Commits.{writes_of}
-use Rattle.bcv_model.specs.NoteRules.{MayStand}
 use Rattle.bcv_model.specs.Notes.{after_note, kept_name, kept_published, rebased, with_local_commit, with_uploaded, with_published}
 use Rattle.bcv_machine.specs.Noting as made
 use Rattle.bcv_machine.specs.Noting.{kept_after, with_commit, with_remaining, locals_published}
 use Rattle.bcv_machine.specs.State.{KeptState, LocalDb, Committing, local_name, local_commits, commits_in}
 use Rattle.bcv_clientstate.specs.KeptLaws.{IsOrdered, IsKeptAfter, NotesAreSteps, NotesKeepOrder}
-use Rattle.bcv_clientstate.specs.SeenKept.{seen_commit, seen_kept, seen_local, seen_note, seen_pending, seen_upload}
+use Rattle.bcv_clientstate.specs.SeenKept.{seen_commit, seen_kept, seen_local, seen_pending, seen_upload}
 use Rattle.bcv_dbmap.proofs.Keys.{keyed_key, ascends_with, ascends_without}
 use Rattle.bcv_clientstate.proofs.KeyedMaps.{keyed_map, with_map, without_map}
 use Rattle.bcv_clientstate.proofs.Replaced.{replaced_none, replaced_with, replaced_without, without_none}

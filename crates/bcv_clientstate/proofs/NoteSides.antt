@@ -1,5 +1,5 @@
 -- What the machine says of a note that a client tried.
-use Rattle.std.proofs.Common.{◌≡◌, ◌∙◌, ◌+◌, ◌*◌, ◌^◌, ◌<◌, ℕ, true, false, List, Option, Some, None, IfSome, refl, sym, ap, subst}
+use Rattle.std.proofs.Common.{◌≡◌, ◌∙◌, ◌+◌, ◌*◌, ◌^◌, ◌<◌, ℕ, true, false, List, Option, Some, IfSome, sym, ap, subst}
 use Rattle.bcv_base.specs.History.{Item}
 use Rattle.bcv_machine.specs.Noting.{noted, note_failed, MayBeFull, kept_after, length_of_note}
 use Rattle.bcv_machine.specs.State as m
@@ -9,8 +9,7 @@ use Rattle.bcv_clientstate.specs.KeptLaws.{IsKeptAfter}
 use Rattle.bcv_clientstate.specs.NoteSides.{MayNote, StandsAsNoted, FailsAsNoted, FullAsNoted, EndsPublication, with_note, while_up}
 use Rattle.bcv_clientstate.specs.Parts.{Parts}
 use Rattle.bcv_clientstate.specs.SeenClient.{Free, seen_client, side_of}
-use Rattle.bcv_clientstate.specs.SeenContainer.{container_of}
-use Rattle.bcv_clientstate.specs.SeenKept.{seen_kept, seen_note}
+use Rattle.bcv_clientstate.specs.SeenKept.{seen_kept}
 use Rattle.bcv_clientstate.proofs.NoteLaws.{are_steps}
 use Rattle.bcv_clientstate.proofs.SizeLaws.{have_sizes}
 

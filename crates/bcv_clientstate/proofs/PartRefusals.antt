@@ -1,17 +1,15 @@
 -- A client refuses an ask where the machine does.
-use Rattle.std.proofs.Common.{◌≡◌, ◌∙◌, ℕ, Bool, true, false, not, cond, ◌||◌, List, [], ◌∷◌, map, length, suc, Option, Some, None, is_some, is_none, refl, sym, ap, subst}
+use Rattle.std.proofs.Common.{◌≡◌, ◌∙◌, ℕ, Bool, false, not, ◌||◌, List, [], ◌∷◌, map, length, suc, Option, Some, None, is_some, is_none, refl, sym, ap, subst}
 use Rattle.std.proofs.lemmas.Option.{same_Some}
 use Rattle.std.specs.Prelude.{nat_le, nat_lt, option_and_then}
 use Rattle.std.specs.List.{AllByRecursion, list_any}
 use Rattle.std.specs.Option.{option_map}
 use Rattle.bcv_base.specs.declared.log.Entry.{Entry}
-use Rattle.bcv_base.specs.History.{Item, history_of, last_of}
+use Rattle.bcv_base.specs.History.{Item, history_of}
 use Rattle.bcv_base.specs.Image.{Writes, or_else}
-use Rattle.bcv_base.specs.Joined.{database_of}
 use Rattle.bcv_base.specs.Keyed.{keyed}
 use Rattle.bcv_base.specs.ManifestRules.{blocks_needed}
 use Rattle.bcv_base.specs.Version.{Database}
-use Rattle.bcv_cache.specs.Entry as cache
 use Rattle.bcv_dbmap.specs.Sound.{IsSoundLog}
 use Rattle.bcv_machine.specs.Refusals as refusals
 use Rattle.bcv_machine.specs.Refusals.{first_reason}
@@ -23,11 +21,11 @@ use Rattle.bcv_model.specs.declared.reply.Reply.{Reply}
 use Rattle.bcv_model.specs.declared.reply.Reply.TheVariants as reply
 use Rattle.bcv_model.specs.Notes.{kept_name}
 use Rattle.bcv_clientstate.specs.BaseLaws.{FitsLocal}
-use Rattle.bcv_clientstate.specs.Fits.{Fits, FitsKnown, known_name}
+use Rattle.bcv_clientstate.specs.Fits.{FitsKnown, known_name}
 use Rattle.bcv_clientstate.specs.PartRefusals.{BeginIsRefused, BusyIsBusy, CommitIsRefused, IsViewOver, PartView, RevertIsRefused, ViewHasBase, ViewIsView, bad_commit, is_publishing, known_part, large_commit, local_part, part_view, runs_publication, seen_view}
 use Rattle.bcv_clientstate.specs.Parts.{Known, Job, Fetching, Polling, Creating, Copying, Uploading, Cleaning, Resolving, Task, Parts}
-use Rattle.bcv_clientstate.specs.SeenClient.{Free, seen_job, seen_known, seen_task, seen_up, side_of}
-use Rattle.bcv_clientstate.specs.SeenContainer.{HasBase, block_in, container_of}
+use Rattle.bcv_clientstate.specs.SeenClient.{Free, seen_job, seen_known, seen_task, seen_up}
+use Rattle.bcv_clientstate.specs.SeenContainer.{container_of}
 use Rattle.bcv_clientstate.specs.SeenKept.{seen_kept, seen_local}
 use Rattle.bcv_dbmap.proofs.Keys.{all_found, keyed_key}
 use Rattle.bcv_clientstate.proofs.Bases.{base_block, base_database}

@@ -1,22 +1,14 @@
 -- The step of a poll in the machine's words.
-use Rattle.std.proofs.Common.{◌≡◌, ◌∙◌, ℕ, List, Option, Some, None, refl, sym, ap, subst}
-use Rattle.bcv_base.specs.declared.manifest.Manifest.{Manifest}
-use Rattle.bcv_base.specs.declared.outcome.Outcome.{Outcome}
+use Rattle.std.proofs.Common.{List, Option, Some, refl, sym, ap, subst}
 use Rattle.bcv_base.specs.declared.outcome.Outcome.TheVariants as outcome
-use Rattle.bcv_base.specs.declared.seen.Latest.{Latest}
-use Rattle.bcv_base.specs.declared.seen.Seen.{Seen}
-use Rattle.bcv_base.specs.History.{Item, last_of}
 use Rattle.bcv_base.specs.Version.{Version}
-use Rattle.bcv_base.specs.Versions.{version_of, versions_of}
-use Rattle.bcv_dbmap.specs.Sound.{Sound}
 use Rattle.bcv_machine.specs.Poll.{PollsLast}
 use Rattle.bcv_machine.specs.State as m
 use Rattle.bcv_machine.specs.State.{last_version, with_up}
 use Rattle.bcv_model.specs.declared.reply.Reply.TheVariants as reply
-use Rattle.bcv_clientstate.specs.Parts.{Parts}
 use Rattle.bcv_clientstate.specs.PollSides.{FaultIsPolled, NoneIsPolled, ReadIsPolled, with_read}
 use Rattle.bcv_clientstate.specs.PutLaws.{IsLastVersion}
-use Rattle.bcv_clientstate.specs.SeenClient.{Free, seen_client, seen_up, side_of}
+use Rattle.bcv_clientstate.specs.SeenClient.{seen_client, seen_up, side_of}
 use Rattle.bcv_clientstate.specs.SeenContainer.{container_of}
 use Rattle.bcv_clientstate.proofs.KnownLaws.{known_is_known}
 use Rattle.bcv_clientstate.proofs.PutLaws.{last_is_last, none_is_none}

@@ -1,20 +1,15 @@
 -- A publication in the machine's words.
-use Rattle.std.proofs.Common.{◌≡◌, ◌∙◌, ◌+◌, ◌-◌, ◌==◌, ℕ, Bool, true, false, cond, List, [], ◌∷◌, ◌++◌, length, Option, Some, None, slice_get, refl, sym, ap, subst, arith, length-append}
+use Rattle.std.proofs.Common.{◌≡◌, ◌∙◌, ◌+◌, ◌-◌, ℕ, Bool, cond, List, [], ◌∷◌, ◌++◌, length, Option, Some, None, slice_get, refl, sym, ap, arith, length-append}
 use Rattle.std.proofs.lemmas.Bool.{ne_eqb}
-use Rattle.std.specs.Option.{option_map}
-use Rattle.bcv_base.specs.declared.id.Id16.{Id16}
 use Rattle.bcv_base.specs.declared.manifest.Manifest.{Manifest}
 use Rattle.bcv_base.specs.Edits as edits
-use Rattle.bcv_base.specs.History.{Item, Published, last_of}
 use Rattle.bcv_base.specs.HistoryLaws.{IsLast, last_is, no_version, version-count}
 use Rattle.bcv_base.specs.Version.{Version}
 use Rattle.bcv_base.specs.Versions.{version_of, versions_of}
-use Rattle.bcv_dbmap.specs.declared.plan.EditPlan.{EditPlan}
-use Rattle.bcv_dbmap.specs.Applied.{applied, edit_of, first_manifest}
-use Rattle.bcv_dbmap.specs.Sound.{Sound}
-use Rattle.bcv_machine.specs.ManifestPut.{sized_by, version_next}
-use Rattle.bcv_machine.specs.State.{Container, Creating, last_version, version_at, version_count}
-use Rattle.bcv_clientstate.specs.PutLaws.{CreateIsFirst, IsEditMade, IsFirstMade, IsLastVersion, LastIsLastVersion, NoneIsNoVersion, PutIsTheEdit, with_version}
+use Rattle.bcv_dbmap.specs.Applied.{edit_of}
+use Rattle.bcv_machine.specs.ManifestPut.{version_next}
+use Rattle.bcv_machine.specs.State.{Container, last_version}
+use Rattle.bcv_clientstate.specs.PutLaws.{CreateIsFirst, LastIsLastVersion, NoneIsNoVersion, PutIsTheEdit}
 use Rattle.bcv_clientstate.specs.SeenContainer.{block_in, container_of, retention_in, swept_of}
 use Rattle.bcv_dbmap.proofs.Appends.{appends_edit, creates_first}
 

@@ -1,9 +1,9 @@
 -- In databases that ascend by name, a change of the first one of a name is a put or a removal.
-use Rattle.std.proofs.Common.{◌≡◌, ◌∙◌, ℕ, Bool, true, false, cond, List, [], ◌∷◌, ◌++◌, Option, Some, None, refl, sym, ap}
+use Rattle.std.proofs.Common.{◌≡◌, ◌∙◌, ℕ, Bool, true, false, cond, List, [], ◌∷◌, ◌++◌, Some, None, refl, sym, ap}
 use Rattle.std.proofs.lemmas.Option.{same_Some}
 use Rattle.std.specs.Str.{bytes_eq}
 use Rattle.bcv_base.specs.Keyed.{comes_before, keyed, with_keyed, without_keyed}
-use Rattle.bcv_base.specs.ManifestRules.{IsAbove, Ascends}
+use Rattle.bcv_base.specs.ManifestRules.{Ascends}
 use Rattle.bcv_model.specs.declared.kept.Local.{Local}
 use Rattle.bcv_model.specs.Notes.{kept_name, replaced_local}
 use Rattle.bcv_dbmap.proofs.Keys.{by_test, same_key, keyed_here, keyed_there, with_over, with_later, without_here, without_there, above_none, above_found, before_back}

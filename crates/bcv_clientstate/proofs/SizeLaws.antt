@@ -1,12 +1,11 @@
 -- How many bytes a note has, as the machine counts them.
-use Rattle.std.proofs.Common.{◌≡◌, ◌∙◌, ℕ, ◌+◌, ◌*◌, List, [], ◌∷◌, map, length, take, replicate, Option, Some, None, IfSome, refl, sym, ap, subst}
+use Rattle.std.proofs.Common.{◌≡◌, ◌∙◌, ℕ, ◌+◌, ◌*◌, List, map, length, take, replicate, Option, Some, None, IfSome, refl, sym, ap, subst}
 use Rattle.std.proofs.lemmas.List.{length-replicate}
 use Rattle.std.specs.Prelude.{option_and_then, unwrap_or}
 use Rattle.std.specs.Option.{option_map}
 use Rattle.std.specs.List.{AllByRecursion}
 use Rattle.bcv_base.specs.declared.manifest.DbEntry.{DbEntry}
-use Rattle.bcv_base.specs.History.{Item, last_of}
-use Rattle.bcv_base.specs.Image.{Writes}
+use Rattle.bcv_base.specs.History.{Item}
 use Rattle.bcv_base.specs.Joined.{database_of, joined}
 use Rattle.bcv_base.specs.Keyed.{keyed}
 use Rattle.bcv_base.specs.ManifestRules.{MeetsEntryRules, blocks_needed, entry_length}
@@ -20,13 +19,13 @@ use Rattle.bcv_model.specs.declared.kept.Uploading.{Uploading}
 use Rattle.bcv_model.specs.declared.note.Note as bytes
 use Rattle.bcv_model.specs.declared.note.Note.TheVariants as note
 use Rattle.bcv_model.specs.Commits.{writes_of}
-use Rattle.bcv_model.specs.NoteRules.{MayStand, MayUpload}
+use Rattle.bcv_model.specs.NoteRules.{MayUpload}
 use Rattle.bcv_model.specs.Notes.{commit_size, kept_name, note_size, upload_size}
 use Rattle.bcv_machine.specs.Noting.{commit_note, commit_of, entry_with, logged, upload_in, upload_with, some_id}
 use Rattle.bcv_machine.specs.State.{Container, LocalDb, Taken, database_at, local_name}
-use Rattle.bcv_clientstate.specs.BaseLaws.{FitsLocal, FitsUpload, FitsNote, NotesHaveSizes}
-use Rattle.bcv_clientstate.specs.SeenContainer.{HasBase, block_in, container_of}
-use Rattle.bcv_clientstate.specs.SeenKept.{seen_commit, seen_kept, seen_local, seen_note, seen_upload}
+use Rattle.bcv_clientstate.specs.BaseLaws.{FitsLocal, FitsUpload, NotesHaveSizes}
+use Rattle.bcv_clientstate.specs.SeenContainer.{HasBase, container_of}
+use Rattle.bcv_clientstate.specs.SeenKept.{seen_commit, seen_kept, seen_local, seen_upload}
 use Rattle.bcv_dbmap.proofs.Keys.{keyed_key, all_found}
 use Rattle.bcv_clientstate.proofs.Bases.{base_block, base_database, pages_len}
 use Rattle.bcv_clientstate.proofs.KeyedMaps.{keyed_map}

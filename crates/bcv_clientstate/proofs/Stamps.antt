@@ -1,5 +1,5 @@
 -- The stamp of a dead block is the moment of a published manifest.
-use Rattle.std.proofs.Common.{◌≡◌, ◌∙◌, ◌+◌, ℕ, Bool, true, false, cond, max, List, [], ◌∷◌, Option, Some, None, inl, inr, refl, sym, ap, subst}
+use Rattle.std.proofs.Common.{◌≡◌, ◌∙◌, ℕ, Bool, true, false, cond, max, List, [], ◌∷◌, Option, Some, None, inl, inr, refl, sym, ap}
 use Rattle.std.proofs.lemmas.Option.{same_Some}
 use Rattle.bcv_base.specs.declared.id.Id16.{Id16}
 use Rattle.bcv_base.specs.declared.manifest.DbEntry.{DbEntry}
@@ -9,10 +9,9 @@ use Rattle.bcv_base.specs.History.{Item, BlockPut, Published, Unreadable, BlockD
 use Rattle.bcv_base.specs.Ids.{has_id}
 use Rattle.bcv_base.specs.Keyed.{keyed}
 use Rattle.bcv_base.specs.ManifestRules.{dead_id, lists}
-use Rattle.bcv_dbmap.specs.declared.plan.EditPlan.{EditPlan}
-use Rattle.bcv_dbmap.specs.Applied.{applied, dbs_after, dead_after, swept_ids}
+use Rattle.bcv_dbmap.specs.Applied.{dbs_after, dead_after, swept_ids}
 use Rattle.bcv_dbmap.specs.Outlived.{IsPublished}
-use Rattle.bcv_dbmap.specs.Sound.{Follows, IsEditOf, IsFirst, IsMade}
+use Rattle.bcv_dbmap.specs.Sound.{Follows, IsEditOf, IsMade}
 use Rattle.bcv_clientstate.specs.StampLaws.{StampsAreMoments}
 use Rattle.bcv_dbmap.proofs.DeadLaws.{dead_at, dead_after_found}
 

@@ -1,12 +1,11 @@
 -- What ties a client to a log: what it keeps of versions, publications and blocks is so in the log.
-use Rattle.std.specs.Prelude.{◌≡◌, ◌⊎◌, ◌≤◌, ◌<◌, ℕ, true, false, List, [], ◌∷◌, length, map, take, Option, Some, None, IfSome, nat_eq}
-use Rattle.std.specs.List.{AllByRecursion, IsDistinct, list_all}
+use Rattle.std.specs.Prelude.{◌≡◌, ◌⊎◌, ◌≤◌, ℕ, true, false, List, length, map, take, Some, None, IfSome}
+use Rattle.std.specs.List.{AllByRecursion, list_all}
 use Rattle.bcv_base.specs.declared.id.Id16.{Id16}
 use Rattle.bcv_base.specs.declared.log.Entry.{Entry}
-use Rattle.bcv_base.specs.declared.seen.Latest.{Latest}
 use Rattle.bcv_base.specs.declared.seen.Seen.{Seen}
 use Rattle.bcv_base.specs.History.{Item, count_of, history_of, first_put}
-use Rattle.bcv_base.specs.Ids.{IsId, has_id, id_eq}
+use Rattle.bcv_base.specs.Ids.{IsId, has_id}
 use Rattle.bcv_base.specs.Image.{Writes}
 use Rattle.bcv_base.specs.ManifestRules.{Ascends, is_block_size}
 use Rattle.bcv_base.specs.Keyed.{keyed}

@@ -1,6 +1,6 @@
 -- Between two calls of a client others may append lawful entries: the client still fits the log, and the machine's client that
 -- it is seen as is the same.
-use Rattle.std.specs.Prelude.{◌≡◌, ◌≤◌, ℕ, List, ◌++◌}
+use Rattle.std.specs.Prelude.{◌≡◌, List, ◌++◌}
 use Rattle.bcv_base.specs.declared.log.Entry.{Entry}
 use Rattle.bcv_base.specs.History.{history_of}
 use Rattle.bcv_cache.specs.Entry as cache

@@ -1,9 +1,10 @@
 -- What ties the journal of a client to what it keeps: every image that a crash may leave holds this, with or without the note in
 -- flight; and what a note comes to.
-use Rattle.std.specs.Prelude.{◌≡◌, ◌≢◌, ◌⊎◌, ℕ, ◌+◌, ◌*◌, ◌^◌, ◌<◌, ◌≤◌, Bool, true, false, List, Option, Some, None}
+use Rattle.std.specs.Prelude.{◌≡◌, ◌⊎◌, ℕ, ◌+◌, ◌*◌, ◌^◌, ◌<◌, ◌≤◌, false, List, Option, Some, None}
 use Rattle.bcv_clientlog.specs.declared.log.ClientLog.{ClientLog}
-use Rattle.bcv_clientlog.specs.LogParts.{Holds, LoadsAs, is_shut, log_area, log_disk, log_tail}
-use Rattle.bcv_disk.specs.DiskShown.{DiskShown}
+use Rattle.bcv_clientlog.specs.LogParts.{Holds, LoadsAs, is_shut, log_area, log_disk, log_start, log_tail}
+use Rattle.bcv_clientlog.specs.Noting.{LogCompacts, LogNotes}
+use Rattle.bcv_disk.specs.DiskShown.{DiskShown, DiskTold}
 use Rattle.bcv_journal.specs.declared.fault.Noted.{Noted}
 use Rattle.bcv_journal.specs.declared.fault.Noted.TheVariants.{Done, JournalFull, DiskFault, Closed, NoMemory}
 use Rattle.bcv_machine.specs.State as m
@@ -56,3 +57,25 @@ NoteGoes shown new k f x y JournalFull = Journaled shown new k f × (2 ^ 31 < 2 
 NoteGoes shown new k f x y DiskFault = Journaled shown new k (free_failed (note_size x) y f)
 NoteGoes shown new k f x y NoMemory = Journaled shown new k f
 NoteGoes shown new k f x y Closed = ⊥
+
+-- a note that may stand is tried of an open log that holds what the client keeps; a crash now is one since the call began, and
+-- what a log holds at rest is what a crash leaves of it
+pub record IsTried {D : Type 0} {g : _} (shown : D → DiskShown) (old new : ClientLog D g) (k : Kept) (f : Free) (x : bytes.Note) (y : m.Note) : Type 0 where
+  pub journaled : Journaled shown old k f
+  pub is_open : is_shut old ≡ false
+  pub may : MayStand k x
+  pub is : seen_note k x ≡ Some y
+  pub now : (image : List ℕ) → (shown (log_disk new)).may_leave image → (shown (log_disk new)).left_since (shown (log_disk old)).moment image
+  pub rest : (kept : Kept) → Holds shown new kept → (image : List ℕ) → (shown (log_disk new)).may_leave image → LoadsAs image kept (log_tail new + log_area new)
+
+-- a note that is added to the others goes so
+abbrev pub NoteGoesOn : {D : Type 0} {g : _} → DiskTold → (D → DiskShown) → ClientLog D g → ClientLog D g → Type 0
+NoteGoesOn told shown old new =
+    (k : Kept) (f : Free) (x : bytes.Note) (y : m.Note) (result : Noted) → told.tells → IsTried shown old new k f x y → LogNotes told shown old new x result
+    → NoteGoes shown new k f x y result
+
+-- and so does one before which the log may be written anew
+abbrev pub CompactGoesOn : {D : Type 0} {g : _} → DiskTold → (D → DiskShown) → ClientLog D g → ClientLog D g → Type 0
+CompactGoesOn told shown old new =
+    (k : Kept) (f : Free) (x : bytes.Note) (y : m.Note) (result : Noted) → told.tells → log_start old ≤ log_tail old → IsTried shown old new k f x y → LogCompacts told shown old new k x result
+    → NoteGoes shown new k f x y result

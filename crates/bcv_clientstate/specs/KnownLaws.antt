@@ -1,5 +1,5 @@
 -- What a client knows after it has read a manifest: the databases without commits here, at its number.
-use Rattle.std.specs.Prelude.{◌≡◌, ℕ, Bool, not, List, map, filter, is_some, None}
+use Rattle.std.specs.Prelude.{◌≡◌, Bool, not, List, map, filter, is_some, None}
 use Rattle.std.specs.List.{AllByRecursion}
 use Rattle.bcv_base.specs.declared.manifest.DbEntry.{DbEntry}
 use Rattle.bcv_base.specs.declared.manifest.Manifest.{Manifest}

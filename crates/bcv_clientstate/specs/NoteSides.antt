@@ -1,15 +1,11 @@
 -- What the machine says of a note, where a client tried it.
-use Rattle.std.specs.Prelude.{◌≡◌, ◌^◌, ◌+◌, ◌*◌, ◌<◌, ℕ, true, List, Option, Some, None}
+use Rattle.std.specs.Prelude.{◌≡◌, ◌^◌, ◌+◌, ◌*◌, ◌<◌, ℕ, true, List, Some}
 use Rattle.std.specs.List.{AllByRecursion}
 use Rattle.bcv_base.specs.History.{Item}
 use Rattle.bcv_dbmap.specs.Sound.{Sound}
-use Rattle.bcv_journal.specs.declared.fault.Noted.{Noted}
-use Rattle.bcv_journal.specs.declared.fault.Noted.TheVariants.{Done, JournalFull, DiskFault, Closed, NoMemory}
-use Rattle.bcv_machine.specs.Noting.{Notes, noted, note_failed, MayBeFull}
+use Rattle.bcv_machine.specs.Noting.{noted, note_failed, MayBeFull}
 use Rattle.bcv_machine.specs.State as m
 use Rattle.bcv_model.specs.declared.note.Note as bytes
-use Rattle.bcv_model.specs.declared.reply.Reply.{Reply}
-use Rattle.bcv_model.specs.declared.reply.Reply.TheVariants as reply
 use Rattle.bcv_model.specs.NoteRules.{MayStand}
 use Rattle.bcv_model.specs.Notes.{after_note, note_size}
 use Rattle.bcv_clientstate.specs.BaseLaws.{FitsLocal, FitsNote}

@@ -1,15 +1,13 @@
 -- When a client refuses an ask, by what it has in memory; and that this is when the machine does.
-use Rattle.std.specs.Prelude.{◌≡◌, ℕ, Bool, true, false, not, List, [], ◌∷◌, length, map, Option, Some, None, is_some, is_none, nat_le, nat_lt, option_and_then}
+use Rattle.std.specs.Prelude.{◌≡◌, ℕ, Bool, true, false, not, List, [], ◌∷◌, length, map, Option, Some, None, is_some, is_none, nat_le, nat_lt}
 use Rattle.std.specs.List.{list_any}
 use Rattle.std.specs.Option.{option_map}
 use Rattle.bcv_base.specs.declared.log.Entry.{Entry}
 use Rattle.bcv_base.specs.declared.manifest.DbEntry.{DbEntry}
 use Rattle.bcv_base.specs.History.{Item, history_of}
 use Rattle.bcv_base.specs.Image.{Writes, or_else}
-use Rattle.bcv_base.specs.Joined.{database_of}
 use Rattle.bcv_base.specs.Keyed.{keyed}
 use Rattle.bcv_base.specs.ManifestRules.{blocks_needed}
-use Rattle.bcv_base.specs.Version.{Database}
 use Rattle.bcv_base.specs.Views.{is_commit}
 use Rattle.bcv_cache.specs.Entry as cache
 use Rattle.bcv_dbmap.specs.Sound.{IsSoundLog}
@@ -24,7 +22,7 @@ use Rattle.bcv_model.specs.Notes.{kept_name}
 use Rattle.bcv_clientstate.specs.Fits.{Fits, known_name}
 use Rattle.bcv_clientstate.specs.Parts.{Known, Job, Fetching, Polling, Creating, Copying, Uploading, Cleaning, Resolving, Task, Parts}
 use Rattle.bcv_clientstate.specs.SeenClient.{Free, seen_up, side_of}
-use Rattle.bcv_clientstate.specs.SeenContainer.{HasBase, container_of}
+use Rattle.bcv_clientstate.specs.SeenContainer.{HasBase}
 use Rattle.bcv_clientstate.specs.SeenKept.{seen_kept}
 
 -- ---- the view of a database

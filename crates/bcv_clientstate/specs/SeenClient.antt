@@ -5,7 +5,7 @@ use Rattle.bcv_base.specs.declared.id.Id16.{Id16}
 use Rattle.bcv_base.specs.declared.seen.Latest.{Latest}
 use Rattle.bcv_base.specs.History.{Item}
 use Rattle.bcv_base.specs.Ids.{id_eq}
-use Rattle.bcv_base.specs.Image.{Page, Writes}
+use Rattle.bcv_base.specs.Image.{Page}
 use Rattle.bcv_base.specs.Joined.{image_of}
 use Rattle.bcv_cleanup.specs.State as cleanup
 use Rattle.bcv_dbcopy.specs.State as copy

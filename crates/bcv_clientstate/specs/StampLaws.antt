@@ -1,6 +1,6 @@
 -- When a dead block died: its stamp is the moment of a published manifest. Where a cleanup takes it, the retention since that
 -- version has passed, as the machine asks.
-use Rattle.std.specs.Prelude.{◌≡◌, ◌≤◌, ◌+◌, ℕ, List, Some}
+use Rattle.std.specs.Prelude.{◌≡◌, List, Some}
 use Rattle.bcv_base.specs.declared.id.Id16.{Id16}
 use Rattle.bcv_base.specs.declared.manifest.Dead.{Dead}
 use Rattle.bcv_base.specs.declared.manifest.Manifest.{Manifest}

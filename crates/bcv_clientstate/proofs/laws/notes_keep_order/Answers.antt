@@ -1,5 +1,4 @@
 use Rattle.bcv_clientstate.proofs.NoteLaws.{keep_order}
-use Rattle.bcv_clientstate.proofs.Noting.{note_goes, compact_goes}
 use Rattle.bcv_clientstate.proofs.laws.notes_keep_order.Goals as goal
 
 pub returns : goal.returns

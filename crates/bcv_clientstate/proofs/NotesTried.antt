@@ -1,9 +1,9 @@
 -- What a note comes to for a client whose log holds what it keeps.
-use Rattle.std.proofs.Common.{◌≡◌, ◌≢◌, ◌⊎◌, ◌∙◌, ◌+◌, ◌*◌, ◌-◌, ◌^◌, ◌<◌, ◌≤◌, ℕ, Bool, true, false, cond, nat_le, List, [], ◌∷◌, Option, Some, None, inl, inr, refl, sym, ap, subst, arith}
+use Rattle.std.proofs.Common.{◌≡◌, ◌⊎◌, ◌+◌, ◌*◌, ◌-◌, ◌<◌, ◌≤◌, ℕ, Bool, true, false, cond, nat_le, List, [], ◌∷◌, Some, None, inl, inr, refl, arith}
 use Rattle.bcv_clientlog.specs.declared.log.ClientLog.{ClientLog}
-use Rattle.bcv_clientlog.specs.Compaction.{Compacts, MovesTo}
-use Rattle.bcv_clientlog.specs.LogParts.{Holds, LoadsAs, LoadsUpTo, is_shut, log_area, log_disk, log_start, log_tail}
-use Rattle.bcv_clientlog.specs.Noting.{CompactNoteTells, LogCompacts, LogNotes, NoteLeaves, NoteTells, size_kept, spare_after}
+use Rattle.bcv_clientlog.specs.Compaction.{MovesTo}
+use Rattle.bcv_clientlog.specs.LogParts.{Holds, LoadsAs, LoadsUpTo, is_shut, log_area, log_start, log_tail, size_kept}
+use Rattle.bcv_clientlog.specs.Noting.{CompactNoteTells, LogCompacts, LogNotes, NoteLeaves, NoteTells, spare_after}
 use Rattle.bcv_disk.specs.DiskShown.{DiskShown, DiskTold}
 use Rattle.bcv_journal.specs.declared.fault.Noted.{Noted}
 use Rattle.bcv_journal.specs.declared.fault.Noted.TheVariants.{Done, JournalFull, DiskFault, Closed, NoMemory}
@@ -14,7 +14,7 @@ use Rattle.bcv_model.specs.declared.note.Note as bytes
 use Rattle.bcv_model.specs.declared.note.Note.TheVariants as note
 use Rattle.bcv_model.specs.NoteRules.{MayStand}
 use Rattle.bcv_model.specs.Notes.{after_note, note_size}
-use Rattle.bcv_clientstate.specs.Journaled.{HoldsFlight, HoldsKept, Journaled, NoteGoes, free_failed, free_noted, most_of}
+use Rattle.bcv_clientstate.specs.Journaled.{CompactGoesOn, HoldsKept, IsTried, Journaled, NoteGoes, NoteGoesOn, free_failed, free_noted, most_of}
 use Rattle.bcv_clientstate.specs.SeenClient.{Free}
 use Rattle.bcv_clientstate.specs.SeenKept.{seen_note}
 
@@ -51,14 +51,8 @@ moved_within start tail size begin end most order long halves within e (inl b) =
 moved_within start tail size begin end most order long halves within e (inr b) = omega (arith, order, long, halves, within, e, b)
 
 module _ {D : Type 0} {g : _} (told : DiskTold) (shown : D → DiskShown) (old new : ClientLog D g) (k : Kept) (f : Free) (x : bytes.Note) (y : m.Note) where
-  -- what is known of the log besides: it was open, and a crash now is a crash since the call began
-  pub record Asked : Type 0 where
-    pub journaled : Journaled shown old k f
-    pub is_open : is_shut old ≡ false
-    pub may : MayStand k x
-    pub is : seen_note k x ≡ Some y
-    pub now : (image : List ℕ) → (shown (log_disk new)).may_leave image → (shown (log_disk new)).left_since (shown (log_disk old)).moment image
-    pub rest : (kept : Kept) → Holds shown new kept → (image : List ℕ) → (shown (log_disk new)).may_leave image → LoadsAs image kept (log_tail new + log_area new)
+  abbrev Asked : Type 0
+  Asked = IsTried shown old new k f x y
 
   -- the log after a note that stands, or after none
   held : (kept : Kept) (g2 : Free) → Asked → Holds shown new kept → g2.flight ≡ None → log_tail new + log_area new ≤ most_of g2 → Journaled shown new kept g2
@@ -69,7 +63,7 @@ module _ {D : Type 0} {g : _} (told : DiskTold) (shown : D → DiskShown) (old n
     within = within;
   }
 
-  goes : (result : Noted) (begin end calls : ℕ) → Asked → NoteLeaves told shown old new result → NoteTells told shown old new x result k begin end calls → end ≤ most_of f → NoteGoes shown new k f x y result
+  goes : (result : Noted) (begin end calls : ℕ) → Asked → NoteLeaves told shown old new x result → NoteTells told shown old new x result k begin end calls → end ≤ most_of f → NoteGoes shown new k f x y result
   goes Done begin end calls asked leaves tells le =
       held (after_note k x) (free_noted (note_size x) f) asked (tells.done refl) (asked.journaled.still asked.is_open)
       (let w = tells.within in let v = asked.journaled.within in omega (arith, w, v))
@@ -107,3 +101,9 @@ module _ {D : Type 0} {g : _} (told : DiskTold) (shown : D → DiskShown) (old n
   compact_goes result tells order asked notes =
       let c : CompactNoteTells told shown old new k x result = notes.tells tells (asked.journaled.settled asked.is_open) asked.may in
       goes result c.begin c.end c.calls asked notes.leaves c.tells (ends_within c.begin c.end c.calls order c.moves asked.journaled.within)
+
+pub notes_go_on : {D : Type 0} {g : _} (told : DiskTold) (shown : D → DiskShown) (old new : ClientLog D g) → NoteGoesOn told shown old new
+notes_go_on told shown old new k f x y result tells asked notes = note_goes told shown old new k f x y result tells asked notes
+
+pub compacts_go_on : {D : Type 0} {g : _} (told : DiskTold) (shown : D → DiskShown) (old new : ClientLog D g) → CompactGoesOn told shown old new
+compacts_go_on told shown old new k f x y result tells order asked notes = compact_goes told shown old new k f x y result tells order asked notes
