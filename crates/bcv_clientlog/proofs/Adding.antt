@@ -1,5 +1,5 @@
 -- A note that is added to a journal whose items are notes.
-use Rattle.std.proofs.Common.{◌≡◌, ◌≢◌, ◌⊎◌, inl, inr, ⊎_elim, ℕ, ◌+◌, ◌-◌, ◌*◌, ◌<◌, ◌≤◌, ◌^◌, Bool, true, false, List, [], ◌∷◌, ◌++◌, length, Option, None, Some, is_some, refl, sym, ◌∙◌, ap, subst, arith}
+use Rattle.std.proofs.Common.{◌≡◌, ◌≢◌, ◌⊎◌, inl, inr, ⊎_elim, ℕ, ◌+◌, ◌*◌, ◌≤◌, ◌^◌, false, List, [], ◌∷◌, ◌++◌, length, Option, None, Some, is_some, refl, sym, ◌∙◌, ap, subst, arith}
 use Rattle.std.specs.Prelude.{IsSome}
 use Rattle.std.proofs.lemmas.Bool.{cases_lt}
 use Rattle.bcv_base.specs.declared.id.Id16.{Id16}
@@ -7,7 +7,7 @@ use Rattle.bcv_disk.specs.Calls.{LeavesOnly-started, LeavesOnly-weaker}
 use Rattle.bcv_disk.specs.Crash.{LeavesOnly}
 use Rattle.bcv_disk.specs.DiskShown.{DiskShown, DiskTold}
 use Rattle.bcv_journal.specs.JournalCalls.{JournalAppends}
-use Rattle.bcv_journal.specs.Parts.{HasItems, disk_of, is_closed, start_at, tail_at}
+use Rattle.bcv_journal.specs.Parts.{HasItems, disk_of, tail_at}
 use Rattle.bcv_journal.specs.Settled.{IsBeforeOrAfter}
 use Rattle.bcv_journal.specs.declared.fault.Noted.{Noted}
 use Rattle.bcv_journal.specs.declared.fault.Noted.TheVariants as noted

@@ -1,5 +1,5 @@
 -- What a compaction comes to.
-use Rattle.std.proofs.Common.{◌≡◌, ◌≢◌, ◌⊎◌, ◌↔◌, inl, inr, ⊎_elim, ℕ, ◌+◌, ◌-◌, ◌*◌, ◌<◌, ◌≤◌, ◌^◌, min, Bool, true, false, cond, List, [], ◌∷◌, length, map, refl, sym, ◌∙◌, ap, subst, arith, nat_le, if◌then◌else◌}
+use Rattle.std.proofs.Common.{◌≡◌, ◌⊎◌, ◌↔◌, inl, inr, ⊎_elim, ℕ, ◌+◌, ◌-◌, ◌<◌, ◌≤◌, ◌^◌, min, Bool, true, false, List, length, map, refl, sym, ◌∙◌, ap, subst, arith, if◌then◌else◌}
 use Rattle.std.specs.Prelude.{IsSome, IsTrue}
 use Rattle.std.proofs.lemmas.Bool.{cases_lt, le-leb, lt-leb}
 use Rattle.std.specs.List.{AllByRecursion}
@@ -21,7 +21,7 @@ use Rattle.bcv_model.specs.Notes.{note_text}
 use Rattle.bcv_notes.specs.KeptBy.{AreNotes}
 use Rattle.bcv_notes.specs.KeptNotes.{items_size, kept_notes, notes_size}
 use Rattle.bcv_clientlog.specs.AddedNote.{CompactTells, IsDenseWhere, JournalCompacts, reach}
-use Rattle.bcv_clientlog.specs.Compaction.{Compacts, MovesTo}
+use Rattle.bcv_clientlog.specs.Compaction.{Compacts}
 use Rattle.bcv_clientlog.specs.LogParts.{LoadsAs}
 use Rattle.bcv_clientlog.proofs.Held.{area_is, area_size, at_rest, fewest, fewest_size, items_fit, room_moved, texts_some}
 

@@ -1,18 +1,18 @@
 -- What a log holds, and what a crash leaves of it.
-use Rattle.std.proofs.Common.{◌≡◌, ◌⊎◌, inl, inr, ℕ, ◌+◌, ◌-◌, ◌<◌, ◌≤◌, ◌^◌, List, [], ◌∷◌, ◌++◌, length, map, Option, None, Some, refl, sym, ◌∙◌, ap, subst, arith, length-append}
+use Rattle.std.proofs.Common.{◌≡◌, ◌⊎◌, inl, inr, ℕ, ◌+◌, ◌<◌, ◌≤◌, ◌^◌, List, [], ◌∷◌, length, map, Option, None, Some, refl, ◌∙◌, ap, arith, length-append}
 use Rattle.std.specs.Prelude.{IsSome}
 use Rattle.std.specs.Int.{w32, to_be_bytes}
 use Rattle.std.specs.List.{AllByRecursion}
 use Rattle.bcv_base.specs.declared.id.Id16.{Id16}
 use Rattle.bcv_disk.specs.DiskShown.{DiskShown}
-use Rattle.bcv_journal.specs.Layout.{EndsAt, IsItem, area_of, open_item, tail_of}
+use Rattle.bcv_journal.specs.Layout.{IsItem, area_of, open_item}
 use Rattle.bcv_journal.specs.Parts.{HasItems, LeavesItems, disk_of, start_at, tail_at}
 use Rattle.bcv_journal.specs.declared.journal.Journal.{Journal}
 use Rattle.bcv_model.specs.declared.kept.Kept.{Kept}
 use Rattle.bcv_model.specs.declared.kept.PendingPub.{PendingPub}
 use Rattle.bcv_model.specs.declared.note.Note.{Note}
 use Rattle.bcv_model.specs.declared.note.Note.TheVariants.{Me, First, Committed, Intent, Done, Void, Revert}
-use Rattle.bcv_model.specs.NoteRules.{Folds, HasRoom, HasRoomToBegin, HasRoomToEnd}
+use Rattle.bcv_model.specs.NoteRules.{HasRoom, HasRoomToBegin, HasRoomToEnd}
 use Rattle.bcv_model.specs.Notes.{note_text, nothing_kept}
 use Rattle.bcv_notes.specs.KeptBy.{AreNotes}
 use Rattle.bcv_notes.specs.KeptNotes.{items_size, kept_notes, notes_size}

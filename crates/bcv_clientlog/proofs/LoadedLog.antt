@@ -1,13 +1,13 @@
 -- What a load of a log comes to, from that of its journal.
-use Rattle.std.proofs.Common.{◌≡◌, ◌⊎◌, inl, inr, ⊎_elim, ℕ, zero, suc, ◌+◌, ◌-◌, ◌<◌, ◌≤◌, ◌^◌, Bool, true, false, List, [], ◌∷◌, ◌++◌, length, map, take, drop, Vec, Global, Option, None, Some, Result, Ok, Err, nat_le, if◌then◌else◌, is_some, refl, sym, ◌∙◌, ap, subst, arith}
+use Rattle.std.proofs.Common.{◌≡◌, inl, inr, ⊎_elim, ℕ, zero, suc, ◌+◌, ◌-◌, ◌<◌, ◌≤◌, Bool, false, List, [], ◌∷◌, length, map, take, drop, Vec, Global, Ok, Err, if◌then◌else◌, is_some, refl, sym, ◌∙◌, ap, subst, arith}
 use Rattle.std.proofs.lemmas.Bool.{cases_lt, lt-leb}
 use Rattle.std.proofs.lemmas.List.{length-drop, take_all}
 use Rattle.bcv_disk.specs.Calls.{DiskFails-as, LeavesOnly-weaker}
 use Rattle.bcv_disk.specs.Crash.{LeavesOnly, Only}
 use Rattle.bcv_disk.specs.DiskCalls.{DiskFails}
 use Rattle.bcv_disk.specs.DiskShown.{DiskShown, DiskTold}
-use Rattle.bcv_journal.specs.Layout.{EndsAt, empty, found, tail_of}
-use Rattle.bcv_journal.specs.Loaded.{CountsLoad, JournalLoads}
+use Rattle.bcv_journal.specs.Layout.{EndsAt, empty, found}
+use Rattle.bcv_journal.specs.Loaded.{JournalLoads}
 use Rattle.bcv_journal.specs.Parts.{HasItems, is_closed, start_at, tail_at}
 use Rattle.bcv_journal.specs.Settled.{IsOldOrAlike, items_of}
 use Rattle.bcv_journal.specs.declared.fault.JournalFault.{JournalFault}
@@ -24,8 +24,8 @@ use Rattle.bcv_notes.specs.declared.keeping.Fold.{Fold}
 use Rattle.bcv_notes.specs.declared.keeping.Fold.TheVariants as fold
 use Rattle.bcv_notes.specs.KeptNotes.{items_size}
 use Rattle.bcv_notes.proofs.Folded.{fold_once}
-use Rattle.bcv_clientlog.specs.LogLoads.{CountsLogLoad, IsOldOrSame, LogLoads}
-use Rattle.bcv_clientlog.specs.LogParts.{Holds, LoadsAs, log_disk}
+use Rattle.bcv_clientlog.specs.LogLoads.{IsOldOrSame, LogLoads}
+use Rattle.bcv_clientlog.specs.LogParts.{LoadsAs, log_disk}
 use Rattle.bcv_clientlog.specs.declared.load.LogLoad.TheVariants.{Ready, Refused}
 use Rattle.bcv_clientlog.specs.declared.log.ClientLog.{ClientLog}
 use Rattle.bcv_clientlog.proofs.Held.{area_is, area_size}

@@ -1,5 +1,5 @@
 -- What the calls of a log come to, from those of its journal.
-use Rattle.std.proofs.Common.{◌≡◌, ◌≢◌, ◌⊎◌, inl, inr, ⊎_elim, ℕ, ◌+◌, ◌-◌, ◌*◌, ◌<◌, ◌≤◌, ◌^◌, Bool, true, false, List, [], ◌∷◌, ◌++◌, length, Vec, Global, Ok, Err, IfOk, is_some, refl, sym, ◌∙◌, ap, subst, arith, length-append}
+use Rattle.std.proofs.Common.{◌≡◌, ◌≢◌, ◌⊎◌, inl, inr, ⊎_elim, ℕ, ◌+◌, ◌-◌, ◌*◌, ◌<◌, ◌≤◌, ◌^◌, Bool, true, false, List, [], ◌∷◌, ◌++◌, length, Ok, Err, IfOk, refl, sym, ◌∙◌, ap, subst, arith, length-append}
 use Rattle.std.specs.Prelude.{IsSome}
 use Rattle.std.proofs.lemmas.Bool.{cases_Bool, cases_lt}
 use Rattle.std.specs.Int.{w64, to_be_bytes}
@@ -10,7 +10,6 @@ use Rattle.bcv_disk.specs.Crash.{LeavesOnly}
 use Rattle.bcv_disk.specs.DiskCalls.{DiskFails}
 use Rattle.bcv_journal.specs.Moved.{new_start}
 use Rattle.bcv_disk.specs.DiskShown.{DiskShown, DiskTold, Trouble}
-use Rattle.bcv_disk.specs.Troubles.{counted}
 use Rattle.bcv_journal.specs.JournalCalls.{JournalAppends, JournalPlans}
 use Rattle.bcv_journal.specs.Parts.{HasItems, disk_of, is_closed, start_at, tail_at}
 use Rattle.bcv_journal.specs.declared.fault.Noted.{Noted}
@@ -20,14 +19,13 @@ use Rattle.bcv_model.specs.declared.kept.Kept.{Kept}
 use Rattle.bcv_model.specs.declared.note.Note.{Note}
 use Rattle.bcv_model.specs.declared.note.Note.TheVariants as note
 use Rattle.bcv_model.specs.NoteRules.{HasRoom, MayStand}
-use Rattle.bcv_model.specs.Notes.{after_note, note_size, note_text}
-use Rattle.bcv_notes.specs.KeptBy.{AreNotes}
+use Rattle.bcv_model.specs.Notes.{note_size, note_text}
 use Rattle.bcv_notes.specs.KeptNotes.{IsLasting}
 use Rattle.bcv_notes.proofs.KeptGrowth.{size_grows}
-use Rattle.bcv_clientlog.specs.AddedNote.{AddsAfter, AddsText, CompactTells, CompactsText, CompactsThen, IsDenseWhere, IsUntried, JournalCompacts, Text, reach}
-use Rattle.bcv_clientlog.specs.Compaction.{Compacts, MovesTo}
-use Rattle.bcv_clientlog.specs.LogParts.{Holds, LoadsAs, LoadsUpTo, is_shut, log_area, log_disk, log_start, log_tail, size_kept}
-use Rattle.bcv_clientlog.specs.Noting.{CompactNoteTells, LogCompacts, LogNotes, LogPlans, NoteLeaves, NoteTells, spare_after, waits_by}
+use Rattle.bcv_clientlog.specs.AddedNote.{AddsAfter, AddsText, CompactsText, IsDenseWhere, IsUntried, JournalCompacts, Text, reach}
+use Rattle.bcv_clientlog.specs.Compaction.{MovesTo}
+use Rattle.bcv_clientlog.specs.LogParts.{Holds, LoadsAs, LoadsUpTo, log_area, log_disk, log_start, log_tail, size_kept}
+use Rattle.bcv_clientlog.specs.Noting.{LogCompacts, LogNotes, LogPlans, NoteLeaves, NoteTells, spare_after, waits_by}
 use Rattle.bcv_clientlog.specs.declared.log.ClientLog.{ClientLog}
 use Rattle.bcv_clientlog.proofs.Held.{room_moved}
 use Rattle.bcv_clientlog.proofs.Adding as adding

@@ -1,5 +1,5 @@
 -- A text that is added after a compaction.
-use Rattle.std.proofs.Common.{◌≡◌, inr, ℕ, Bool, false, List, length, Vec, Global, Ok, sym, subst}
+use Rattle.std.proofs.Common.{◌≡◌, inr, ℕ, Bool, false, length, Vec, Global, Ok, sym, subst}
 use Rattle.bcv_disk.specs.DiskShown.{DiskShown, DiskTold}
 use Rattle.bcv_journal.specs.Parts.{is_closed}
 use Rattle.bcv_journal.specs.declared.fault.Noted.{Noted}

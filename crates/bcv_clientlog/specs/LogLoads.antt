@@ -6,7 +6,6 @@ use Rattle.bcv_disk.specs.DiskCalls.{DiskFails}
 use Rattle.bcv_disk.specs.Troubles.{counted}
 use Rattle.bcv_journal.specs.Layout.{EndsAt, Loads}
 use Rattle.bcv_journal.specs.Loaded.{load_calls}
-use Rattle.bcv_journal.specs.declared.fault.JournalFault.{JournalFault}
 use Rattle.bcv_journal.specs.declared.fault.JournalFault.TheVariants.{NotJournal, DiskFault, NoMemory}
 use Rattle.bcv_model.specs.declared.kept.Kept.{Kept}
 use Rattle.bcv_model.specs.NoteRules.{HasRoom}

@@ -1,5 +1,5 @@
 -- What the two writes of an append come to.
-use Rattle.std.proofs.Common.{◌≡◌, ℕ, ◌+◌, ◌<◌, ◌≤◌, ◌^◌, List, [], ◌∷◌, ◌++◌, length, refl, sym, ◌∙◌, ap, subst, arith, length-append}
+use Rattle.std.proofs.Common.{◌≡◌, ℕ, ◌+◌, ◌<◌, ◌≤◌, ◌^◌, List, [], ◌∷◌, ◌++◌, length, refl, ◌∙◌, ap, arith, length-append}
 use Rattle.bcv_disk.specs.Calls.{DiskFails-none, DiskFails-then}
 use Rattle.bcv_disk.specs.Crash.{put}
 use Rattle.bcv_disk.specs.DiskShown.{DiskShown, DiskTold}
@@ -7,7 +7,7 @@ use Rattle.bcv_disk.specs.Told.{length-put}
 use Rattle.bcv_disk.specs.Troubles.{counted}
 use Rattle.bcv_disk.specs.declared.disk.DiskEnd.{DiskEnd}
 use Rattle.bcv_disk.specs.declared.disk.DiskEnd.TheVariants.{Done, Failed, NoMemory}
-use Rattle.bcv_journal.specs.AddedItem.{DiskAdds, ItemTells}
+use Rattle.bcv_journal.specs.AddedItem.{DiskAdds}
 use Rattle.bcv_journal.specs.KeptWrite.{DiskKeeps}
 use Rattle.bcv_journal.specs.Layout.{IsItem, open_item}
 use Rattle.bcv_journal.specs.declared.area.Area.{Area}

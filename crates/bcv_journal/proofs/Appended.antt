@@ -1,5 +1,5 @@
 -- What the calls of a journal come to, from those of its disk.
-use Rattle.std.proofs.Common.{◌≡◌, ◌⊎◌, inl, inr, ⊎_elim, ℕ, ◌+◌, ◌<◌, ◌≤◌, ◌^◌, Bool, true, false, List, [], ◌∷◌, ◌++◌, length, Vec, Global, Ok, refl, sym, ◌∙◌, ap, subst, arith}
+use Rattle.std.proofs.Common.{◌≡◌, inl, inr, ⊎_elim, ℕ, ◌+◌, ◌<◌, ◌≤◌, ◌^◌, true, false, List, [], ◌∷◌, ◌++◌, length, Vec, Global, Ok, refl, sym, ◌∙◌, ap, subst, arith}
 use Rattle.bcv_disk.specs.Calls.{DiskFails-as, DiskFails-none, LeavesOnly-started}
 use Rattle.bcv_disk.specs.DiskCalls.{DiskPlans}
 use Rattle.bcv_disk.specs.DiskShown.{DiskShown, DiskTold, Trouble}
@@ -8,11 +8,11 @@ use Rattle.bcv_journal.specs.AddedItem.{DiskAdds, longer}
 use Rattle.bcv_journal.specs.JournalCalls.{JournalAppends, JournalPlans}
 use Rattle.bcv_journal.specs.Loaded.{JournalLoads, load_calls}
 use Rattle.bcv_journal.specs.LoadedItems.{ItemsLoad}
-use Rattle.bcv_journal.specs.Settled.{IsBeforeOrAfter, IsSettled, items_of}
+use Rattle.bcv_journal.specs.Settled.{IsBeforeOrAfter, IsSettled}
 use Rattle.bcv_journal.specs.declared.area.Area.{Area}
 use Rattle.bcv_journal.specs.declared.fault.Noted.TheVariants as noted
 use Rattle.bcv_journal.specs.declared.journal.Journal.{Journal}
-use Rattle.bcv_journal.specs.declared.load.Load.TheVariants.{Ready, Refused}
+use Rattle.bcv_journal.specs.declared.load.Load.TheVariants.{Ready}
 use Rattle.bcv_journal.proofs.Append.{settled_ends, settled_same}
 
 pub ready_loads : {D : Type 0} {g : _} (told : DiskTold) (shown : D → DiskShown) (disk : D) (journal : Journal D g) (v : Vec (Vec ℕ Global) Global) → journal.closed ≡ false

@@ -1,11 +1,10 @@
 -- A new journal.
-use Rattle.std.proofs.Common.{◌≡◌, ℕ, false, ◌≤◌, ◌^◌, List, [], ◌∷◌, ◌++◌, length, drop, refl, sym, ◌∙◌, ap, subst, arith}
+use Rattle.std.proofs.Common.{◌≡◌, ℕ, false, ◌≤◌, List, [], ◌∷◌, ◌++◌, length, refl, ap, arith}
 use Rattle.std.proofs.lemmas.List.{drop_all}
 use Rattle.bcv_disk.specs.Crash.{Only, put}
 use Rattle.bcv_disk.specs.DiskShown.{DiskShown}
 use Rattle.bcv_journal.specs.Layout.{empty, magic}
 use Rattle.bcv_journal.specs.Settled.{IsSettled}
-use Rattle.bcv_journal.specs.declared.area.Area.{Area}
 
 pub put_empty : (old : List ℕ) → length old ≤ 18 → put old 0 empty ≡ empty
 put_empty old short = ap (λ (l : List ℕ). [] ++ empty ++ l) (drop_all 18 old short)

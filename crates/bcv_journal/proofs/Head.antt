@@ -1,5 +1,5 @@
 -- The head of a file, which its first 17 bytes decide.
-use Rattle.std.proofs.Common.{◌≡◌, ℕ, ◌+◌, ◌-◌, ◌<◌, ◌≤◌, ◌==◌, Bool, true, false, List, ◌++◌, length, get_or, take, drop, lit<, refl, sym, ◌∙◌, ap, arith}
+use Rattle.std.proofs.Common.{◌≡◌, ℕ, ◌+◌, ◌-◌, ◌≤◌, ◌==◌, Bool, true, false, List, take, drop, ◌∙◌, ap, arith}
 use Rattle.std.proofs.lemmas.List.{drop-take, get_or-take, take-take}
 use Rattle.std.specs.Int.{w32, from_be_bytes}
 use Rattle.bcv_journal.specs.Layout.{field_of, is_second, start_in}

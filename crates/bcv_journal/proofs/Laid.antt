@@ -1,5 +1,5 @@
 -- What a crash leaves while a second area is laid and chosen.
-use Rattle.std.proofs.Common.{◌≡◌, ◌⊎◌, inl, inr, ⊎_elim, ℕ, ◌+◌, ◌-◌, ◌<◌, ◌≤◌, ◌^◌, ◌==◌, Bool, true, false, not, List, [], ◌∷◌, ◌++◌, length, get_or, take, drop, refl, sym, ◌∙◌, ap, subst, arith, lit<, length-append}
+use Rattle.std.proofs.Common.{◌≡◌, ◌⊎◌, inl, inr, ⊎_elim, ℕ, ◌+◌, ◌<◌, ◌≤◌, ◌^◌, ◌==◌, Bool, true, false, not, List, [], ◌∷◌, length, get_or, take, drop, refl, sym, ◌∙◌, ap, subst, arith, lit<, length-append}
 use Rattle.std.proofs.lemmas.List.{drop_more, get_or-take}
 use Rattle.std.proofs.lemmas.Nat.{from_be_bytes-to_be_bytes_4}
 use Rattle.std.specs.Int.{w32, from_be_bytes, to_be_bytes}
@@ -7,7 +7,7 @@ use Rattle.bcv_disk.specs.Calls.{LeavesOnly-more, LeavesOnly-started}
 use Rattle.bcv_disk.specs.Crash.{LeavesOnly, Only, Passes, Through, Torn, put}
 use Rattle.bcv_disk.specs.DiskShown.{DiskShown}
 use Rattle.bcv_disk.specs.Told.{put_is_torn}
-use Rattle.bcv_journal.specs.Layout.{EndsAt, area_of, field_of, is_second, start_in}
+use Rattle.bcv_journal.specs.Layout.{EndsAt, area_of, field_of, is_second}
 use Rattle.bcv_journal.specs.Moved.{IsApart, IsWholeArea, LeadsTo, moved, selector_of, size_of}
 use Rattle.bcv_journal.specs.Settled.{IsEither, IsSettled}
 use Rattle.bcv_journal.specs.declared.area.Area.{Area}

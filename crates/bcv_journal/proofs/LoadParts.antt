@@ -1,9 +1,9 @@
 -- What the parts of a load come to.
-use Rattle.std.proofs.Common.{◌≡◌, inl, inr, ℕ, ◌+◌, ◌<◌, ◌≤◌, ◌^◌, Bool, true, false, List, [], ◌∷◌, ◌++◌, length, Vec, Global, nat_le, if◌then◌else◌, Ok, Err, IfOk, IfErr, refl, sym, ◌∙◌, ap, subst, arith, length-append}
+use Rattle.std.proofs.Common.{◌≡◌, inl, inr, ℕ, ◌+◌, ◌<◌, ◌≤◌, ◌^◌, Bool, false, List, [], ◌∷◌, length, Vec, Global, nat_le, if◌then◌else◌, Ok, Err, IfOk, IfErr, refl, sym, ◌∙◌, ap, subst, arith, length-append}
 use Rattle.std.proofs.lemmas.Bool.{le-leb, lt-leb}
 use Rattle.std.proofs.lemmas.List.{take_all}
 use Rattle.bcv_disk.specs.Calls.{CountsCall-done, DiskFails-as, DiskFails-none, DiskFails-then}
-use Rattle.bcv_disk.specs.Crash.{LeavesOnly, Only, Passes}
+use Rattle.bcv_disk.specs.Crash.{Only, Passes}
 use Rattle.bcv_disk.specs.DiskCalls.{DiskFails, DiskReads}
 use Rattle.bcv_disk.specs.DiskShown.{DiskShown, DiskTold}
 use Rattle.bcv_disk.specs.Troubles.{counted}
@@ -11,11 +11,10 @@ use Rattle.bcv_disk.specs.declared.disk.DiskEnd.TheVariants as end
 use Rattle.bcv_journal.specs.KeptWrite.{DiskKeeps}
 use Rattle.bcv_journal.specs.Layout.{IsSpelled, Loads, area_of, empty, found, tail_of, written}
 use Rattle.bcv_journal.specs.Loaded.{load_calls}
-use Rattle.bcv_journal.specs.LoadedItems.{CountsItems, GivesItems, HasArea, IsArea, IsDiskRefusal, ItemsLoad, Outcome, PartLoads}
+use Rattle.bcv_journal.specs.LoadedItems.{CountsItems, GivesItems, IsArea, ItemsLoad, Outcome, PartLoads}
 use Rattle.bcv_journal.specs.Reading.{IsRead, IsReadFault}
-use Rattle.bcv_journal.specs.Settled.{IsOldOrAlike, IsSettled, LoadsAlike, items_of}
+use Rattle.bcv_journal.specs.Settled.{IsSettled, items_of}
 use Rattle.bcv_journal.specs.declared.area.Area.{Area}
-use Rattle.bcv_journal.specs.declared.fault.JournalFault.{JournalFault}
 use Rattle.bcv_journal.specs.declared.fault.JournalFault.TheVariants.{NotJournal, DiskFault, NoMemory}
 use Rattle.bcv_journal.proofs.Empty.{put_empty, settled_empty}
 use Rattle.bcv_journal.proofs.Loading.{after_more, after_reading, after_writing, at_start}

@@ -1,11 +1,11 @@
 -- What the reader of a file keeps true.
-use Rattle.std.proofs.Common.{inl, inr, lit<, Bool, ◌≡◌, ◌≤◌, ◌≢◌, ℕ, ◌+◌, ◌-◌, ◌^◌, ◌<◌, List, [], ◌∷◌, ◌++◌, length, get_or, take, drop, sym, ◌∙◌, ap, subst, arith, append_assoc, length-append, take-append-drop}
+use Rattle.std.proofs.Common.{inl, inr, lit<, Bool, ◌≡◌, ◌≤◌, ℕ, ◌+◌, ◌-◌, ◌^◌, ◌<◌, List, [], ◌∷◌, ◌++◌, length, get_or, take, drop, sym, ◌∙◌, ap, subst, arith, append_assoc, length-append, take-append-drop}
 use Rattle.std.proofs.lemmas.List.{append-nil, length-take, length-take-le, length-drop, get_or-take, get_or_past, take-take}
 use Rattle.std.proofs.lemmas.Bool.{cases_lt}
 use Rattle.std.proofs.lemmas.Nat.{be_bytes_4}
 use Rattle.std.specs.Int.{w32, to_be_bytes, from_be_bytes}
 use Rattle.std.specs.List.{AllByRecursion}
-use Rattle.bcv_journal.specs.Layout.{BreaksAt, HasItem, IsFront, IsItem, area_of, field_of, is_second, magic, start_in, tail_of, written}
+use Rattle.bcv_journal.specs.Layout.{BreaksAt, HasItem, IsFront, IsItem, area_of, is_second, magic, start_in, tail_of, written}
 use Rattle.bcv_journal.specs.Reading.{IsRead, IsShut}
 use Rattle.bcv_journal.specs.declared.area.Area.{Area}
 use Rattle.bcv_journal.proofs.Head.{second-front, start-front}

@@ -1,5 +1,5 @@
 -- What the two parts of a restart come to.
-use Rattle.std.proofs.Common.{◌≡◌, inl, inr, ℕ, ◌+◌, ◌<◌, ◌≤◌, not, List, [], ◌∷◌, length, refl, sym, ◌∙◌, ap, subst, arith}
+use Rattle.std.proofs.Common.{◌≡◌, inl, ℕ, ◌+◌, ◌<◌, ◌≤◌, not, List, [], ◌∷◌, length, refl, ◌∙◌, ap, subst, arith}
 use Rattle.std.specs.Int.{w32, to_be_bytes}
 use Rattle.bcv_disk.specs.Calls.{CountsCall-done, DiskFails-as, DiskFails-then, LeavesOnly-then, LeavesOnly-weaker}
 use Rattle.bcv_disk.specs.Crash.{Passes, Through, Torn, put}
@@ -11,7 +11,7 @@ use Rattle.bcv_disk.specs.declared.disk.DiskEnd.{DiskEnd}
 use Rattle.bcv_disk.specs.declared.disk.DiskEnd.TheVariants.{Done, Failed, NoMemory}
 use Rattle.bcv_journal.specs.KeptWrite.{DiskKeeps}
 use Rattle.bcv_journal.specs.Layout.{EndsAt, field_of}
-use Rattle.bcv_journal.specs.Moved.{DiskChooses, DiskLays, DiskMoves, IsApart, IsWholeArea, selector_of, size_of}
+use Rattle.bcv_journal.specs.Moved.{DiskChooses, DiskLays, DiskMoves, IsApart, selector_of, size_of}
 use Rattle.bcv_journal.specs.Settled.{IsEither}
 use Rattle.bcv_journal.specs.declared.area.Area.{Area}
 use Rattle.bcv_journal.proofs.Append.{settled_same}

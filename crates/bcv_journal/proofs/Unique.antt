@@ -1,10 +1,10 @@
 -- What a file loads as is one thing alone.
-use Rattle.std.proofs.Common.{◌≡◌, ◌≢◌, ◌⊎◌, inl, inr, ℕ, Bool, ◌<◌, ◌≤◌, List, [], ◌∷◌, ◌++◌, length, take, drop, ⊎_elim, Result, Ok, Err, refl, sym, ◌∙◌, ap, subst, arith, append_assoc, length-append}
+use Rattle.std.proofs.Common.{◌≡◌, ◌≢◌, ◌⊎◌, inl, inr, ℕ, Bool, ◌<◌, ◌≤◌, List, [], ◌∷◌, ◌++◌, length, take, drop, ⊎_elim, Result, Ok, Err, refl, sym, ◌∙◌, ap, arith, append_assoc, length-append}
 use Rattle.std.proofs.lemmas.List.{take_at, drop_at, take-append-le}
 use Rattle.std.proofs.lemmas.Nat.{from_be_bytes-to_be_bytes_4}
 use Rattle.std.specs.Int.{w32, from_be_bytes, to_be_bytes}
 use Rattle.std.specs.List.{AllByRecursion, flat_map}
-use Rattle.bcv_journal.specs.Layout.{BreaksAt, EndsAt, HasItem, HasNoStart, IsFront, IsItem, IsSpelled, Loads, area_of, field_of, is_second, magic, open_item, start_in, tail_of, written}
+use Rattle.bcv_journal.specs.Layout.{BreaksAt, EndsAt, HasItem, HasNoStart, IsFront, IsItem, IsSpelled, Loads, area_of, is_second, magic, open_item, start_in, tail_of, written}
 use Rattle.bcv_journal.proofs.Head.{second-front, start-front}
 
 -- what stands after the last whole item: a closed gate, or an open one with no whole item after it

@@ -1,11 +1,10 @@
 -- What the calls of a journal promise, from the journal before the call and after it.
-use Rattle.std.specs.Prelude.{◌≡◌, ◌≢◌, ◌⊎◌, ◌↔◌, ℕ, ◌+◌, ◌-◌, ◌*◌, ◌^◌, ◌<◌, ◌≤◌, Bool, true, false, List, [], ◌∷◌, ◌++◌, length, nat_le, if◌then◌else◌}
-use Rattle.std.specs.List.{AllByRecursion}
+use Rattle.std.specs.Prelude.{◌≡◌, ◌≢◌, ◌⊎◌, ◌↔◌, ℕ, ◌+◌, ◌^◌, ◌<◌, true, false, List, [], ◌∷◌, ◌++◌, length}
 use Rattle.bcv_disk.specs.Crash.{LeavesOnly, put}
 use Rattle.bcv_disk.specs.DiskShown.{DiskShown, DiskTold, Trouble}
 use Rattle.bcv_disk.specs.DiskCalls.{DiskFails, DiskPlans}
 use Rattle.bcv_disk.specs.Troubles.{counted}
-use Rattle.bcv_journal.specs.Layout.{IsItem, area_of, open_item}
+use Rattle.bcv_journal.specs.Layout.{open_item}
 use Rattle.bcv_journal.specs.Moved.{new_start, size_of}
 use Rattle.bcv_journal.specs.Parts.{HasItems, disk_of, is_closed, start_at, tail_at}
 use Rattle.bcv_journal.specs.Settled.{IsBeforeOrAfter, IsEither}

@@ -1,5 +1,5 @@
 -- What a journal and its disk hold, and what its calls may leave.
-use Rattle.std.specs.Prelude.{◌≡◌, ◌⊎◌, ℕ, ◌+◌, ◌^◌, ◌≤◌, List, [], ◌∷◌, ◌++◌, length, Result, Ok, map, Vec}
+use Rattle.std.specs.Prelude.{◌≡◌, ◌⊎◌, ℕ, ◌+◌, ◌^◌, ◌≤◌, List, [], ◌∷◌, ◌++◌, length, Result, map, Vec}
 use Rattle.std.specs.declared.alloc.Global.{Global}
 use Rattle.bcv_disk.specs.Crash.{Only}
 use Rattle.bcv_disk.specs.DiskShown.{DiskShown}

@@ -1,18 +1,15 @@
 -- A note that stays makes the fewest notes longer.
-use Rattle.std.proofs.Common.{◌≡◌, ◌∙◌, ℕ, ◌+◌, ◌≤◌, Bool, true, false, List, [], ◌∷◌, ◌++◌, length, Option, Some, None, refl, sym, ap, subst, arith}
+use Rattle.std.proofs.Common.{◌≡◌, ◌∙◌, ℕ, ◌+◌, ◌≤◌, List, [], ◌∷◌, ◌++◌, length, Option, Some, None, sym, ap, arith}
 use Rattle.std.specs.List.{flat_map}
 use Rattle.std.specs.Str.{bytes_eq}
 use Rattle.bcv_base.specs.Keyed.{keyed, with_keyed}
 use Rattle.bcv_dbmap.proofs.Keys.{by_place, by_test, keyed_here, keyed_there, same_key}
 use Rattle.bcv_model.specs.declared.ask.Commit.{Commit}
-use Rattle.bcv_model.specs.declared.kept.Kept.{Kept}
 use Rattle.bcv_model.specs.declared.kept.Local.{Local}
 use Rattle.bcv_model.specs.declared.kept.PendingPub.{PendingPub}
-use Rattle.bcv_model.specs.declared.note.Note.{Note}
 use Rattle.bcv_model.specs.declared.note.Note.TheVariants.{Me, First, Committed, Intent, Done, Void, Revert}
-use Rattle.bcv_model.specs.NoteRules.{MayStand}
 use Rattle.bcv_model.specs.Notes.{after_note, kept_name, note_size, with_local_commit}
-use Rattle.bcv_notes.specs.KeptNotes.{SizeGrows, committed_notes, first_notes, intent_notes, kept_notes, local_notes, me_notes, notes_size}
+use Rattle.bcv_notes.specs.KeptNotes.{SizeGrows, committed_notes, first_notes, intent_notes, local_notes, notes_size}
 use Rattle.bcv_notes.proofs.KeptSizes.{kept_parts, notes_append}
 use Rattle.bcv_notes.proofs.WellKept.{grown, grows, here, there}
 

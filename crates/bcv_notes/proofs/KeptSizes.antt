@@ -1,5 +1,5 @@
 -- How many bytes the fewest notes take that come to what is kept.
-use Rattle.std.proofs.Common.{◌≡◌, ℕ, ◌+◌, ◌-◌, ◌*◌, ◌^◌, ◌<◌, ◌≤◌, min, List, [], ◌∷◌, ◌++◌, length, map, refl, sym, ◌∙◌, ap, subst, arith, append_assoc, Vec, Global}
+use Rattle.std.proofs.Common.{◌≡◌, ℕ, ◌+◌, ◌-◌, ◌*◌, ◌^◌, ◌<◌, ◌≤◌, min, List, [], ◌∷◌, ◌++◌, length, map, refl, sym, ◌∙◌, ap, arith, append_assoc, Vec, Global}
 use Rattle.std.specs.List.{flat_map}
 use Rattle.bcv_base.specs.Image.{Page}
 use Rattle.bcv_model.specs.declared.ask.Commit.{Commit}
@@ -7,10 +7,9 @@ use Rattle.bcv_model.specs.declared.kept.Kept.{Kept}
 use Rattle.bcv_model.specs.declared.kept.Local.{Local}
 use Rattle.bcv_model.specs.declared.note.Note.{Note}
 use Rattle.bcv_model.specs.declared.note.Note.TheVariants.{First}
-use Rattle.bcv_model.specs.NoteRules.{Folds}
 use Rattle.bcv_model.specs.Notes.{after_note, note_text, pages_size}
 use Rattle.bcv_notes.specs.KeptBy.{items_of}
-use Rattle.bcv_notes.specs.KeptNotes.{SizesAdd, committed_notes, first_notes, intent_notes, items_size, kept_notes, local_notes, me_notes, notes_size}
+use Rattle.bcv_notes.specs.KeptNotes.{SizesAdd, committed_notes, first_notes, intent_notes, kept_notes, local_notes, me_notes, notes_size}
 use Rattle.bcv_notes.proofs.NoteSizes.{note_len}
 
 -- a sum that is walked to the end

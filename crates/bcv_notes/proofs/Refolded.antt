@@ -1,5 +1,5 @@
 -- The fewest notes of what is kept fold to it.
-use Rattle.std.proofs.Common.{◌≡◌, ◌∙◌, ℕ, ◌+◌, ◌<◌, ◌≤◌, Bool, true, false, cond, List, [], ◌∷◌, ◌++◌, length, Option, Some, None, refl, sym, ap, subst, arith, append_assoc, append-nil}
+use Rattle.std.proofs.Common.{◌≡◌, ◌∙◌, ℕ, ◌<◌, Bool, true, cond, List, [], ◌∷◌, ◌++◌, length, Option, Some, None, refl, sym, ap, subst, arith, append_assoc, append-nil}
 use Rattle.std.specs.Prelude.{IfSome}
 use Rattle.std.specs.List.{AllByRecursion, flat_map}
 use Rattle.std.specs.Str.{bytes_eq}
@@ -14,9 +14,9 @@ use Rattle.bcv_model.specs.declared.kept.Local.{Local}
 use Rattle.bcv_model.specs.declared.kept.PendingPub.{PendingPub}
 use Rattle.bcv_model.specs.declared.kept.Uploading.{Uploading}
 use Rattle.bcv_model.specs.declared.note.Note.{Note}
-use Rattle.bcv_model.specs.declared.note.Note.TheVariants.{Me, First, Committed, Intent}
+use Rattle.bcv_model.specs.declared.note.Note.TheVariants.{First, Committed}
 use Rattle.bcv_model.specs.NoteRules.{FitsDatabase, Folds, MayUpload}
-use Rattle.bcv_model.specs.Notes.{after_note, kept_name, nothing_kept, replaced_local, with_local_commit}
+use Rattle.bcv_model.specs.Notes.{after_note, kept_name, nothing_kept, with_local_commit}
 use Rattle.bcv_notes.specs.KeptNotes.{KeptAgain, committed_notes, first_notes, intent_notes, kept_notes, local_notes}
 use Rattle.bcv_notes.proofs.WellKept.{IsWell, IsWellLocal, grown, upload_as, well_kept}
 

@@ -1,14 +1,14 @@
 -- What a log comes to is well formed.
-use Rattle.std.proofs.Common.{◌≡◌, ◌∙◌, ℕ, zero, suc, ◌+◌, ◌<◌, ◌≤◌, Bool, true, false, cond, List, [], ◌∷◌, ◌++◌, length, map, drop, Option, Some, None, refl, sym, ap, subst, arith, append_assoc, append-nil, length-append}
+use Rattle.std.proofs.Common.{◌≡◌, ◌∙◌, ℕ, zero, suc, ◌<◌, ◌≤◌, Bool, true, false, cond, List, [], ◌∷◌, ◌++◌, length, drop, Option, Some, None, refl, sym, ap, subst, arith, length-append}
 use Rattle.std.specs.Prelude.{IsSome, IfSome}
-use Rattle.std.specs.List.{AllByRecursion, flat_map}
+use Rattle.std.specs.List.{AllByRecursion}
 use Rattle.std.specs.Str.{bytes_eq}
 use Rattle.std.proofs.lemmas.Option.{same_Some}
 use Rattle.bcv_base.specs.declared.id.Id16.{Id16}
 use Rattle.bcv_base.specs.Ids.{IsId}
 use Rattle.bcv_base.specs.Keyed.{comes_before, keyed, with_keyed, without_keyed}
 use Rattle.bcv_base.specs.ManifestRules.{Ascends, IsAbove, MeetsEntryRules, is_block_size}
-use Rattle.bcv_dbmap.proofs.Keys.{all_found, all_with, all_without, ascends_with, ascends_without, before_back, before_other, by_test, key_same, keyed_here, keyed_key, keyed_other, keyed_there, same_key, with_later}
+use Rattle.bcv_dbmap.proofs.Keys.{all_found, all_with, all_without, ascends_with, ascends_without, by_test, keyed_here, keyed_other, keyed_there, same_key}
 use Rattle.bcv_model.specs.declared.ask.Commit.{Commit}
 use Rattle.bcv_model.specs.declared.kept.Kept.{Kept}
 use Rattle.bcv_model.specs.declared.kept.Local.{Local}

@@ -1,4 +1,4 @@
-use Rattle.std.proofs.Common.{◌≡◌, ◌∙◌, List, ℕ, length, refl, rules, subst}
+use Rattle.std.proofs.Common.{◌≡◌, List, ℕ, refl, rules, subst}
 use Rattle.bcv_journal.specs.JournalCalls.{JournalAppends}
 use Rattle.bcv_journal.specs.declared.fault.Noted.TheVariants as noted
 use Rattle.bcv_clientlog.proofs.Trying.{compacted_then}

@@ -1,4 +1,4 @@
-use Rattle.std.proofs.Common.{◌+◌, List, ℕ, ◌∙◌, arith}
+use Rattle.std.proofs.Common.{◌∙◌, arith}
 use Rattle.bcv_journal.proofs.Added.{added_both, added_failed, added_none, added_starved}
 use Rattle.bcv_journal.proofs.item.write_item.Goals as goal
 

@@ -1,4 +1,4 @@
-use Rattle.std.proofs.Common.{inl, inr, rules, length, ◌-◌, arith}
+use Rattle.std.proofs.Common.{inr, rules, arith}
 use Rattle.bcv_journal.specs.Settled.{items_of}
 use Rattle.bcv_journal.proofs.Reader.{read-end, read-no}
 use Rattle.bcv_journal.proofs.layout.read_items.Goals as goal

@@ -1,4 +1,4 @@
-use Rattle.std.proofs.Common.{rules, arith, length, sym, ap, ◌∙◌}
+use Rattle.std.proofs.Common.{arith}
 use Rattle.bcv_journal.proofs.LoadParts.{calls-long, calls-short, load_part, sync_failed, too_long}
 use Rattle.bcv_journal.proofs.load.load_items.Goals as goal
 

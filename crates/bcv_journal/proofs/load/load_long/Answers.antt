@@ -1,5 +1,5 @@
-use Rattle.std.proofs.Common.{◌≡◌, rules, arith, List, ℕ, ◌++◌, length, take, drop, refl, sym, ap, ◌∙◌, subst}
-use Rattle.std.proofs.lemmas.List.{append-nil, drop_all, take_all, take_at}
+use Rattle.std.proofs.Common.{◌≡◌, rules, List, ℕ, sym, ◌∙◌, subst}
+use Rattle.std.proofs.lemmas.List.{take_at}
 use Rattle.bcv_disk.specs.DiskCalls.{DiskReads}
 use Rattle.bcv_disk.specs.declared.disk.DiskEnd.TheVariants.{Done}
 use Rattle.bcv_journal.proofs.LoadParts.{long_done, long_failed, long_none}

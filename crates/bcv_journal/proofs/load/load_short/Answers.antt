@@ -1,4 +1,3 @@
-use Rattle.std.proofs.Common.{refl}
 use Rattle.bcv_journal.proofs.LoadParts.{short_done, short_failed, short_starved}
 use Rattle.bcv_journal.proofs.load.load_short.Goals as goal
 

@@ -1,4 +1,3 @@
-use Rattle.std.proofs.Common.{refl}
 use Rattle.bcv_journal.proofs.Restarted.{lay_broke, lay_done, lay_failed, lay_kept, lay_lost, lay_starved}
 use Rattle.bcv_journal.proofs.restart.lay.Goals as goal
 

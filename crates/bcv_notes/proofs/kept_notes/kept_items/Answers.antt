@@ -1,4 +1,4 @@
-use Rattle.std.proofs.Common.{◌≡◌, List, ap, rules, arith}
+use Rattle.std.proofs.Common.{◌≡◌, List, ap, arith}
 use Rattle.std.specs.List.{flat_map}
 use Rattle.bcv_model.specs.declared.kept.Local.{Local}
 use Rattle.bcv_notes.specs.KeptNotes.{local_notes, notes_size}

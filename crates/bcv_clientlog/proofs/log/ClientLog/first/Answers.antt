@@ -1,4 +1,4 @@
-use Rattle.std.proofs.Common.{refl, rules}
+use Rattle.std.proofs.Common.{refl}
 use Rattle.bcv_model.specs.declared.note.Note.TheVariants.{First}
 use Rattle.bcv_clientlog.proofs.LogNoted.{compacts}
 use Rattle.bcv_clientlog.proofs.log.ClientLog.first.Goals as goal

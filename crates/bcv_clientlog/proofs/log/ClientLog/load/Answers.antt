@@ -1,4 +1,4 @@
-use Rattle.std.proofs.Common.{◌≡◌, ◌∙◌, ◌+◌, List, ℕ, Vec, Global, drop, ap, arith, refl, rules, subst, sym}
+use Rattle.std.proofs.Common.{◌≡◌, ◌+◌, List, ℕ, Vec, Global, drop, ap, arith, refl, rules, subst, sym}
 use Rattle.bcv_journal.specs.Parts.{tail_at}
 use Rattle.bcv_journal.specs.Settled.{items_of}
 use Rattle.bcv_journal.specs.declared.fault.JournalFault.TheVariants.{NotJournal, NoMemory}

@@ -1,4 +1,4 @@
-use Rattle.std.proofs.Common.{refl, rules}
+use Rattle.std.proofs.Common.{refl}
 use Rattle.bcv_model.specs.declared.note.Note.TheVariants.{Revert}
 use Rattle.bcv_clientlog.proofs.LogNoted.{compacts}
 use Rattle.bcv_clientlog.proofs.log.ClientLog.revert.Goals as goal
