@@ -1,3 +1,5 @@
+ghost use Rattle.std.specs.Prelude.{◌≡◌, ◌<◌, length};
+
 use bcv_vfs::{Piece, Span};
 use std::process::Abort;
 
