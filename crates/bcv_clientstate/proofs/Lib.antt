@@ -8,6 +8,7 @@ pub mod NoteLaws
 pub mod NoteSides
 pub mod NotesTried
 pub mod Bases
+pub mod CheckLaws
 pub mod GoneLaws
 pub mod Growth
 pub mod SizeLaws

@@ -8,6 +8,7 @@ pub mod Fits
 pub mod GrowthLaws
 pub mod Journaled
 pub mod NoteSides
+pub mod CheckLaws
 pub mod GoneLaws
 pub mod KnownLaws
 pub mod PartRefusals

@@ -1,5 +1,6 @@
 //! Laws of what a client stands on. Each function does nothing: its clause is the law, for proofs to cite.
 ghost use Rattle.bcv_clientstate.specs.BaseLaws.{BaseHasBlock, BaseIsDatabase, BaseStays, NotesHaveSizes};
+ghost use Rattle.bcv_clientstate.specs.CheckLaws.{FaultIsFound, NoneIsFound, PassesIsFree};
 ghost use Rattle.bcv_clientstate.specs.GoneLaws.{OutlivedMayBeGone};
 ghost use Rattle.bcv_clientstate.specs.GrowthLaws.{GrowthFits, GrowthLeavesClient};
 ghost use Rattle.bcv_clientstate.specs.KnownLaws.{KnownFits, KnownIsKnown};
@@ -88,4 +89,11 @@ pub fn refusals_are_the_machines()
     ensures begin { BeginIsRefused }
     ensures commit { CommitIsRefused }
     ensures revert { RevertIsRefused }
+{}
+
+/// Shows that what a publication's get finds is what the machine finds.
+pub fn checks_are_the_machines()
+    ensures passes { PassesIsFree }
+    ensures fault { FaultIsFound }
+    ensures none { NoneIsFound }
 {}
