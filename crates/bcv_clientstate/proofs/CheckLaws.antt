@@ -10,12 +10,12 @@ use Rattle.bcv_base.specs.declared.manifest.Manifest.{Manifest}
 use Rattle.bcv_base.specs.BlockCounts as counts
 use Rattle.bcv_base.specs.History.{Item, last_of}
 use Rattle.bcv_base.specs.Ids.{id_eq}
-use Rattle.bcv_base.specs.Image.{Page, or_else}
+use Rattle.bcv_base.specs.Image.{or_else}
 use Rattle.bcv_base.specs.Joined.{database_of}
 use Rattle.bcv_base.specs.Keyed.{keyed}
 use Rattle.bcv_base.specs.ManifestRules.{db_name, writer_id, blocks_needed}
 use Rattle.bcv_base.specs.Version.{Database, Version, the_name}
-use Rattle.bcv_base.specs.Versions.{version_of, versions_of}
+use Rattle.bcv_base.specs.Versions.{version_of}
 use Rattle.bcv_dbmap.specs.declared.fault.EditFault.{EditFault}
 use Rattle.bcv_dbmap.specs.declared.fault.EditFault.TheVariants as fault
 use Rattle.bcv_dbmap.specs.declared.plan.EditPlan.{EditPlan}
@@ -28,7 +28,7 @@ use Rattle.bcv_machine.specs.ManifestGet.{CanPublish, IsEditFault, IsFound}
 use Rattle.bcv_machine.specs.State as m
 use Rattle.bcv_model.specs.declared.reply.Reply.{Reply}
 use Rattle.bcv_model.specs.declared.reply.Reply.TheVariants as reply
-use Rattle.bcv_clientstate.specs.CheckLaws.{FaultIsFound, IsAskedAs, IsOver, NoneIsFound, PassesIsFree, fault_reply}
+use Rattle.bcv_clientstate.specs.CheckLaws.{FaultIsFound, IsAskedAs, NoneIsFound, PassesIsFree, fault_reply}
 use Rattle.bcv_clientstate.specs.PutLaws.{IsLastVersion}
 use Rattle.bcv_clientstate.specs.SeenContainer.{block_in, container_of}
 use Rattle.bcv_dbmap.proofs.Keys.{key_turned}

@@ -187,6 +187,7 @@ grows log others p entries sound lawful fits =
       seen = seen_later log others p.seen fits.seen;
       txns = all_kept (FitsTxn (history_of log)) (FitsTxn (history_of (log ++ others))) (txn_later log others) p.txns fits.txns;
       tasks = all_kept (FitsTask mine p.id p.kept log) (FitsTask mine p.id p.kept (log ++ others)) (λ t h. job_later mine p.id log others sound lawful p.kept t.job h) p.tasks fits.tasks;
+      staged = fits.staged;
       cached = all_kept (FitsEntry (history_of log)) (FitsEntry (history_of (log ++ others))) (entry_later log others) entries fits.cached;
     }
 

@@ -13,3 +13,5 @@ pub mod GoneLaws
 pub mod Growth
 pub mod SizeLaws
 pub mod Stamps
+pub mod WorkSides
+pub mod Stages

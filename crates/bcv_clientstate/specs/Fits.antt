@@ -33,6 +33,7 @@ use Rattle.bcv_clientstate.specs.BaseLaws.{FitsLocal}
 use Rattle.bcv_clientstate.specs.KeptLaws.{IsOrdered}
 use Rattle.bcv_clientstate.specs.Parts.{Known, OpenTxn, Job, Fetching, Polling, Creating, Copying, Uploading, Cleaning, Resolving, Task, Parts, mine_of}
 use Rattle.bcv_clientstate.specs.SeenContainer.{HasBase}
+use Rattle.bcv_clientstate.specs.Stages.{IsStagedTask}
 
 -- ---- what it saw
 
@@ -121,4 +122,5 @@ pub record Fits (p : Parts) (entries : List cache.Entry) (log : List Entry) : Ty
   pub seen : FitsSeen (history_of log) p.seen
   pub txns : AllByRecursion (FitsTxn (history_of log)) p.txns
   pub tasks : AllByRecursion (FitsTask (mine_of p) p.id p.kept log) p.tasks
+  pub staged : AllByRecursion IsStagedTask p.tasks
   pub cached : AllByRecursion (FitsEntry (history_of log)) entries

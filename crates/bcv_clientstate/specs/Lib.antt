@@ -4,6 +4,7 @@ pub mod SeenContainer
 pub mod BaseLaws
 pub mod Parts
 pub mod SeenClient
+pub mod Stages
 pub mod Fits
 pub mod GrowthLaws
 pub mod Journaled
@@ -14,4 +15,6 @@ pub mod KnownLaws
 pub mod PartRefusals
 pub mod PollSides
 pub mod PutLaws
+pub mod StageLaws
 pub mod StampLaws
+pub mod WorkSides

@@ -5,7 +5,7 @@ use Rattle.bcv_base.specs.declared.id.Id16.{Id16}
 use Rattle.bcv_base.specs.declared.seen.Latest.{Latest}
 use Rattle.bcv_base.specs.History.{Item}
 use Rattle.bcv_base.specs.Ids.{id_eq}
-use Rattle.bcv_base.specs.Image.{Page}
+use Rattle.bcv_base.specs.Image.{Page, Writes}
 use Rattle.bcv_base.specs.Joined.{image_of}
 use Rattle.bcv_cleanup.specs.State as cleanup
 use Rattle.bcv_dbcopy.specs.State as copy
@@ -68,15 +68,25 @@ seen_create waiting block retention id =
 abbrev pub seen_begun : cleanup.State → Option m.CleanupBegun
 seen_begun s = option_map (λ (moment : ℕ). record { moment = moment; count = length (cleanup.taken_ids s) }) s.moment
 
+-- a new database, a copy or a removal; an upload of the commits of a view; and a cleanup
+abbrev pub seen_copying : Option PendingPub → copy.State → m.Publication
+seen_copying waiting s = seen_publication waiting s.publish (kind_of s.edit s.pages) (copy.left_of s) None
+
+abbrev pub seen_uploading : Option PendingPub → upload.State → List Writes → m.Publication
+seen_uploading waiting s view = seen_publication waiting s.publish (m.Uploading s.base.entry.name s.base.number view) (upload.left_of s) None
+
+abbrev pub seen_cleaning : Option PendingPub → cleanup.State → m.Publication
+seen_cleaning waiting s = seen_publication waiting s.publish m.Cleaning (cleanup.left_of s) (seen_begun s)
+
 -- ---- tasks
 
 abbrev pub seen_job : Option PendingPub → Job → m.Job
 seen_job waiting (Fetching access txn page) = m.Fetching access txn page
 seen_job waiting Polling = m.Polling
 seen_job waiting (Creating block retention id) = m.Publishing (seen_create waiting block retention id)
-seen_job waiting (Copying s) = m.Publishing (seen_publication waiting s.publish (kind_of s.edit s.pages) (copy.left_of s) None)
-seen_job waiting (Uploading s view) = m.Publishing (seen_publication waiting s.publish (m.Uploading s.base.entry.name s.base.number view) (upload.left_of s) None)
-seen_job waiting (Cleaning s) = m.Publishing (seen_publication waiting s.publish m.Cleaning (cleanup.left_of s) (seen_begun s))
+seen_job waiting (Copying s) = m.Publishing (seen_copying waiting s)
+seen_job waiting (Uploading s view) = m.Publishing (seen_uploading waiting s view)
+seen_job waiting (Cleaning s) = m.Publishing (seen_cleaning waiting s)
 seen_job waiting Resolving = m.Resolving
 
 abbrev pub seen_task : Option PendingPub → Task → m.Task

@@ -6,7 +6,9 @@ ghost use Rattle.bcv_clientstate.specs.GrowthLaws.{GrowthFits, GrowthLeavesClien
 ghost use Rattle.bcv_clientstate.specs.KnownLaws.{KnownFits, KnownIsKnown};
 ghost use Rattle.bcv_clientstate.specs.KeptLaws.{NotesAreSteps, NotesKeepOrder};
 ghost use Rattle.bcv_clientstate.specs.NoteSides.{StandsAsNoted, FailsAsNoted, FullAsNoted};
+ghost use Rattle.bcv_clientstate.specs.StageLaws.{DeletionStaysSwept, NewIsStaged, RefusedIsStaged, RefusedIsSwept, UploadStaysStaged};
 ghost use Rattle.bcv_clientstate.specs.StampLaws.{StampsAreMoments};
+ghost use Rattle.bcv_clientstate.specs.WorkSides.{CleanupGoesOn, CleanupReads, CopyGoesOn, CopyReads, UploadGoesOn, UploadReads};
 ghost use Rattle.bcv_clientstate.specs.PartRefusals.{BeginIsRefused, BusyIsBusy, CommitIsRefused, RevertIsRefused, ViewHasBase, ViewIsView};
 ghost use Rattle.bcv_clientstate.specs.PollSides.{FaultIsPolled, NoneIsPolled, ReadIsPolled};
 ghost use Rattle.bcv_clientstate.specs.PutLaws.{CreateIsFirst, LastIsLastVersion, NoneIsNoVersion, PutIsTheEdit};
@@ -96,4 +98,23 @@ pub fn checks_are_the_machines()
     ensures passes { PassesIsFree }
     ensures fault { FaultIsFound }
     ensures none { NoneIsFound }
+{}
+
+/// Shows that what a publication does before its put is the machine's step.
+pub fn works_are_the_machines()
+    ensures copy_reads { CopyReads }
+    ensures copy_goes_on { CopyGoesOn }
+    ensures upload_reads { UploadReads }
+    ensures upload_goes_on { UploadGoesOn }
+    ensures cleanup_reads { CleanupReads }
+    ensures cleanup_goes_on { CleanupGoesOn }
+{}
+
+/// Shows that an upload and a cleanup which keep no manifest have begun nothing yet, or have only the manifest's requests left.
+pub fn stages_stay()
+    ensures new { NewIsStaged }
+    ensures upload { UploadStaysStaged }
+    ensures deletion { DeletionStaysSwept }
+    ensures refused_upload { RefusedIsStaged }
+    ensures refused_cleanup { RefusedIsSwept }
 {}
