@@ -15,3 +15,4 @@ pub mod SizeLaws
 pub mod Stamps
 pub mod WorkSides
 pub mod Stages
+pub mod StartRefusals

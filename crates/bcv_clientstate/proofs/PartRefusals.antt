@@ -81,11 +81,11 @@ busy_is_busy past p = any_publishing p.kept.pending p.tasks
 
 -- ---- refusals
 
-none_map : {A B : Type 0} (f : A → B) (o : Option A) → is_none (option_map f o) ≡ is_none o
+pub none_map : {A B : Type 0} (f : A → B) (o : Option A) → is_none (option_map f o) ≡ is_none o
 none_map f None = refl
 none_map f (Some x) = refl
 
-some_map : {A B : Type 0} (f : A → B) (o : Option A) → is_some (option_map f o) ≡ is_some o
+pub some_map : {A B : Type 0} (f : A → B) (o : Option A) → is_some (option_map f o) ≡ is_some o
 some_map f None = refl
 some_map f (Some x) = refl
 
@@ -93,11 +93,11 @@ not_some : {A : Type 0} (o : Option A) → not (is_some o) ≡ is_none o
 not_some None = refl
 not_some (Some x) = refl
 
-map_len : {A B : Type 0} (f : A → B) (xs : List A) → length (map f xs) ≡ length xs
+pub map_len : {A B : Type 0} (f : A → B) (xs : List A) → length (map f xs) ≡ length xs
 map_len f [] = refl
 map_len f (x ∷ xs) = ap (λ n. suc n) (map_len f xs)
 
-unknown : (past : List Item) (p : Parts) (db : List ℕ) → not (refusals.is_known (seen_kept p.kept) (seen_up past p) db) ≡ is_none (part_view p db)
+pub unknown : (past : List Item) (p : Parts) (db : List ℕ) → not (refusals.is_known (seen_kept p.kept) (seen_up past p) db) ≡ is_none (part_view p db)
 unknown past p db = ap (λ (o : Option m.View). not (is_some o)) (view_is_view past p db) ∙ not_some (option_map seen_view (part_view p db)) ∙ none_map seen_view (part_view p db)
 
 pub begin_is_refused : BeginIsRefused

@@ -18,3 +18,4 @@ pub mod PutLaws
 pub mod StageLaws
 pub mod StampLaws
 pub mod WorkSides
+pub mod StartRefusals

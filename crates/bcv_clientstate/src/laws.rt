@@ -8,6 +8,7 @@ ghost use Rattle.bcv_clientstate.specs.KeptLaws.{NotesAreSteps, NotesKeepOrder};
 ghost use Rattle.bcv_clientstate.specs.NoteSides.{StandsAsNoted, FailsAsNoted, FullAsNoted};
 ghost use Rattle.bcv_clientstate.specs.StageLaws.{DeletionStaysSwept, NewIsStaged, RefusedIsStaged, RefusedIsSwept, UploadStaysStaged};
 ghost use Rattle.bcv_clientstate.specs.StampLaws.{StampsAreMoments};
+ghost use Rattle.bcv_clientstate.specs.StartRefusals.{PollIsRefused, ResolveIsRefused, StartIsRefused, UploadIsOver};
 ghost use Rattle.bcv_clientstate.specs.WorkSides.{CleanupGoesOn, CleanupReads, CopyGoesOn, CopyReads, UploadGoesOn, UploadReads};
 ghost use Rattle.bcv_clientstate.specs.PartRefusals.{BeginIsRefused, BusyIsBusy, CommitIsRefused, RevertIsRefused, ViewHasBase, ViewIsView};
 ghost use Rattle.bcv_clientstate.specs.PollSides.{FaultIsPolled, NoneIsPolled, ReadIsPolled};
@@ -117,4 +118,13 @@ pub fn stages_stay()
     ensures deletion { DeletionStaysSwept }
     ensures refused_upload { RefusedIsStaged }
     ensures refused_cleanup { RefusedIsSwept }
+{}
+
+/// Shows that a client refuses to start a task exactly where the machine does, by what it has in memory, and what an upload that
+/// starts is over.
+pub fn starts_are_the_machines()
+    ensures start { StartIsRefused }
+    ensures poll { PollIsRefused }
+    ensures resolve { ResolveIsRefused }
+    ensures over { UploadIsOver }
 {}
