@@ -16,3 +16,4 @@ pub mod Stamps
 pub mod WorkSides
 pub mod Stages
 pub mod StartRefusals
+pub mod LocalSides

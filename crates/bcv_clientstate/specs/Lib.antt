@@ -19,3 +19,4 @@ pub mod StageLaws
 pub mod StampLaws
 pub mod WorkSides
 pub mod StartRefusals
+pub mod LocalSides

@@ -5,6 +5,7 @@ ghost use Rattle.bcv_clientstate.specs.GoneLaws.{OutlivedMayBeGone};
 ghost use Rattle.bcv_clientstate.specs.GrowthLaws.{GrowthFits, GrowthLeavesClient};
 ghost use Rattle.bcv_clientstate.specs.KnownLaws.{KnownFits, KnownIsKnown};
 ghost use Rattle.bcv_clientstate.specs.KeptLaws.{NotesAreSteps, NotesKeepOrder};
+ghost use Rattle.bcv_clientstate.specs.LocalSides.{CommitsAsAsked, RefusesCommit, RefusesRevert, RevertsAsAsked};
 ghost use Rattle.bcv_clientstate.specs.NoteSides.{StandsAsNoted, FailsAsNoted, FullAsNoted};
 ghost use Rattle.bcv_clientstate.specs.StageLaws.{DeletionStaysSwept, NewIsStaged, RefusedIsStaged, RefusedIsSwept, UploadStaysStaged};
 ghost use Rattle.bcv_clientstate.specs.StampLaws.{StampsAreMoments};
@@ -127,4 +128,12 @@ pub fn starts_are_the_machines()
     ensures poll { PollIsRefused }
     ensures resolve { ResolveIsRefused }
     ensures over { UploadIsOver }
+{}
+
+/// Shows that a commit and a revert are the machine's, whether they are refused, or their note stands or fails.
+pub fn local_calls_are_the_machines()
+    ensures commits { CommitsAsAsked }
+    ensures no_commit { RefusesCommit }
+    ensures reverts { RevertsAsAsked }
+    ensures no_revert { RefusesRevert }
 {}

@@ -10,8 +10,9 @@ mod noting;
 
 pub use laws::{
     base_is_database, base_stays, checks_are_the_machines, growth_is_harmless, known_is_known,
-    notes_are_steps, notes_are_the_machines, notes_have_sizes, notes_keep_order,
-    outlived_may_be_gone, polls_are_the_machines, puts_are_edits, refusals_are_the_machines,
-    stages_stay, stamps_are_moments, starts_are_the_machines, works_are_the_machines,
+    local_calls_are_the_machines, notes_are_steps, notes_are_the_machines, notes_have_sizes,
+    notes_keep_order, outlived_may_be_gone, polls_are_the_machines, puts_are_edits,
+    refusals_are_the_machines, stages_stay, stamps_are_moments, starts_are_the_machines,
+    works_are_the_machines,
 };
 pub use noting::notes_are_journaled;
