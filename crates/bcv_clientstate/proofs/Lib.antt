@@ -17,3 +17,5 @@ pub mod WorkSides
 pub mod Stages
 pub mod StartRefusals
 pub mod LocalSides
+pub mod ResolveSides
+pub mod UpSides

@@ -20,3 +20,5 @@ pub mod StampLaws
 pub mod WorkSides
 pub mod StartRefusals
 pub mod LocalSides
+pub mod ResolveSides
+pub mod UpSides

@@ -7,9 +7,11 @@ ghost use Rattle.bcv_clientstate.specs.KnownLaws.{KnownFits, KnownIsKnown};
 ghost use Rattle.bcv_clientstate.specs.KeptLaws.{NotesAreSteps, NotesKeepOrder};
 ghost use Rattle.bcv_clientstate.specs.LocalSides.{CommitsAsAsked, RefusesCommit, RefusesRevert, RevertsAsAsked};
 ghost use Rattle.bcv_clientstate.specs.NoteSides.{StandsAsNoted, FailsAsNoted, FullAsNoted};
+ghost use Rattle.bcv_clientstate.specs.ResolveSides.{AtIsFound, FreshIsNotFound, LastIsFound, VoidedIsNotFound};
 ghost use Rattle.bcv_clientstate.specs.StageLaws.{DeletionStaysSwept, NewIsStaged, RefusedIsStaged, RefusedIsSwept, UploadStaysStaged};
 ghost use Rattle.bcv_clientstate.specs.StampLaws.{StampsAreMoments};
 ghost use Rattle.bcv_clientstate.specs.StartRefusals.{PollIsRefused, ResolveIsRefused, StartIsRefused, UploadIsOver};
+ghost use Rattle.bcv_clientstate.specs.UpSides.{LoadsWhatIsLeft, RisesAsMachine};
 ghost use Rattle.bcv_clientstate.specs.WorkSides.{CleanupGoesOn, CleanupReads, CopyGoesOn, CopyReads, UploadGoesOn, UploadReads};
 ghost use Rattle.bcv_clientstate.specs.PartRefusals.{BeginIsRefused, BusyIsBusy, CommitIsRefused, RevertIsRefused, ViewHasBase, ViewIsView};
 ghost use Rattle.bcv_clientstate.specs.PollSides.{FaultIsPolled, NoneIsPolled, ReadIsPolled};
@@ -136,4 +138,19 @@ pub fn local_calls_are_the_machines()
     ensures no_commit { RefusesCommit }
     ensures reverts { RevertsAsAsked }
     ensures no_revert { RefusesRevert }
+{}
+
+/// Shows that a resolve finds the version that the pending publication was made as, or that there is none, where the machine does.
+pub fn resolves_find_the_version()
+    ensures last { LastIsFound }
+    ensures fresh { FreshIsNotFound }
+    ensures at { AtIsFound }
+    ensures voided { VoidedIsNotFound }
+{}
+
+/// Shows that what the journal of a crashed client gives is what the machine says may be left, and that the client that comes up
+/// with it is the machine's.
+pub fn crashes_leave_what_is_kept()
+    ensures left { LoadsWhatIsLeft }
+    ensures rises { RisesAsMachine }
 {}
