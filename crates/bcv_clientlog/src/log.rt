@@ -30,7 +30,7 @@ pub struct ClientLog<D: Disk> {
 
 impl<D: Disk> ClientLog<D> {
     ghost use Rattle.bcv_model.specs.declared.kept.Kept.{Kept};
-    ghost use Rattle.bcv_clientlog.specs.LogParts.{Holds, LoadsAs, is_shut, is_waiting, log_area, log_disk, log_tail};
+    ghost use Rattle.bcv_clientlog.specs.LogParts.{Holds, LoadsAs, is_shut, is_waiting, log_area, log_disk, log_start, log_tail};
     ghost use Rattle.bcv_clientlog.specs.Noting.{LogCompacts, LogNotes};
 
     /// Notes the client's id, as the first note. A log that was loaded without it has room for it.
@@ -77,6 +77,7 @@ impl<D: Disk> ClientLog<D> {
     pub fn intent(&mut self, alloc: Global, kept: &Kept, pending: &PendingPub) -> Noted
         ensures notes { LogCompacts D.told D.shown self.old self.new kept.now (Intent pending.now) result }
         ensures waits { result ≡ Noted.Done → is_waiting self.new ≡ true }
+        ensures stays { result ≢ Noted.Done → is_waiting self.new ≡ is_waiting self.old }
     {
         self.dense = is_dense(&self.journal, kept, self.dense);
         let text = intent_note(alloc, pending);
@@ -92,6 +93,7 @@ impl<D: Disk> ClientLog<D> {
         requires waits { is_waiting self.old ≡ true }
         ensures notes { LogNotes D.told D.shown self.old self.new (Done id.now number) result }
         ensures fits { result ≢ Noted.JournalFull }
+        ensures stays { result ≢ Noted.Done → is_waiting self.new ≡ is_waiting self.old }
     {
         let _ = id.bytes();
         self.dense = false;
@@ -107,6 +109,7 @@ impl<D: Disk> ClientLog<D> {
         requires waits { is_waiting self.old ≡ true }
         ensures notes { LogNotes D.told D.shown self.old self.new (Void id.now) result }
         ensures fits { result ≢ Noted.JournalFull }
+        ensures stays { result ≢ Noted.Done → is_waiting self.new ≡ is_waiting self.old }
     {
         let _ = id.bytes();
         self.dense = false;
@@ -137,6 +140,17 @@ impl<D: Disk> ClientLog<D> {
         ensures { result ≡ is_shut self.now }
     {
         self.journal.closed()
+    }
+
+    /// Where its notes begin and end, in bytes. A crash now leaves what the log holds.
+    pub fn span(&self) -> (u64, u64)
+        ensures start { result.0 ≡ log_start self.now }
+        ensures tail { result.1 ≡ log_tail self.now }
+        ensures order { log_start self.now ≤ log_tail self.now }
+        ensures leaves { (k : Kept) → Holds D.shown self.now k → (image : List ℕ) → (D.shown (log_disk self.now)).may_leave image
+            → LoadsAs image k (log_tail self.now + log_area self.now) }
+    {
+        self.journal.span()
     }
 
     /// The disk back. A crash leaves what the log holds.
