@@ -50,9 +50,8 @@ LogGives shown bytes (Refused disk (NotJournal place)) = IsNoLog bytes place × 
 LogGives shown bytes (Refused disk DiskFault) = Unit {0}
 LogGives shown bytes (Refused disk NoMemory) = Unit {0}
 
--- bytes that load as notes which come to something give this and no other, in a log no longer than those bytes; they
--- are
--- not refused
+-- bytes that load as notes which come to something give this and no other, and are not refused; the log is no longer
+-- than those bytes
 abbrev pub GivesOnly : {D : Type 0} {g : _} → List ℕ → LogLoad D g → Type 0
 GivesOnly bytes (Ready log kept) = (k : Kept) (most : ℕ) → LoadsAs bytes k most → (kept ≡ k) × (log_tail log + log_area log ≤ most)
 GivesOnly bytes (Refused disk (NotJournal place)) = (k : Kept) (most : ℕ) → LoadsAs bytes k most → ⊥
