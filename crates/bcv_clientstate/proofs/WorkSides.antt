@@ -26,6 +26,7 @@ use Rattle.bcv_cleanup.specs.State as cleanup
 use Rattle.bcv_dbcopy.specs.State as copy
 use Rattle.bcv_dbcopy.specs.TaskWork as copying
 use Rattle.bcv_dbmap.specs.Checked.{checked}
+use Rattle.bcv_dbmap.specs.declared.fault.EditFault.TheVariants as fault
 use Rattle.bcv_dbmap.specs.declared.plan.EditPlan.{EditPlan}
 use Rattle.bcv_dbmap.specs.declared.plan.EditPlan.TheVariants as edit
 use Rattle.bcv_dbmap.specs.Outlived.{IsPublished}
@@ -34,9 +35,11 @@ use Rattle.bcv_dbmap.specs.Sound.{Sound}
 use Rattle.bcv_machine.specs.ManifestGet.{CanPublish, MayRelease, GetsManifest, IsLeft, IsLeftFirst, after_get, begun_after, begun_first}
 use Rattle.bcv_machine.specs.MiddleStep.{GoesOn, IsBlockBegun, Lowers, deleted_by, requested, swept_at, swept_by}
 use Rattle.bcv_machine.specs.Starting.{touched_count, upload_blocks}
+use Rattle.bcv_machine.specs.Noting.{FaultEnds}
 use Rattle.bcv_machine.specs.State as m
 use Rattle.bcv_machine.specs.State.{with_up}
 use Rattle.bcv_model.specs.declared.kept.PendingPub.{PendingPub}
+use Rattle.bcv_model.specs.declared.reply.Reply.{Reply}
 use Rattle.bcv_model.specs.declared.reply.Reply.TheVariants as reply
 use Rattle.bcv_publish.specs.State as publish
 use Rattle.bcv_publish.specs.State.{with_latest}
@@ -45,7 +48,7 @@ use Rattle.bcv_upload.specs.UploadWork as uploading
 use Rattle.bcv_clientstate.specs.CheckLaws.{IsAskedAs}
 use Rattle.bcv_clientstate.specs.SeenClient.{kind_of, seen_cleaning, seen_copying, seen_uploading}
 use Rattle.bcv_clientstate.specs.SeenContainer.{block_in, container_of, retention_in}
-use Rattle.bcv_clientstate.specs.WorkSides.{CleanupGoesOn, CleanupReads, CopyGoesOn, CopyReads, IsOverLast, IsUploadOf, TakesOld, UploadGoesOn, UploadReads, with_deletion}
+use Rattle.bcv_clientstate.specs.WorkSides.{CleanupGoesOn, CleanupReads, CopyGoesOn, CopyReads, IsOverLast, IsUploadOf, TakesOld, UploadGoesOn, UploadReads, with_deletion, ReadFails, ReadFindsFault, ReadFindsNone, RequestFails, RequestFindsGone}
 use Rattle.bcv_clientstate.specs.Stages.{IsStageOf, IsSweptOf}
 use Rattle.bcv_clientstate.proofs.Bases.{base_block, base_database, pages_len}
 use Rattle.bcv_clientstate.proofs.CheckLaws.{passes_is_free}
@@ -453,3 +456,38 @@ pub cleanup_goes_on : CleanupGoesOn
 cleanup_goes_on moment at past waiting s t i l x u same run kept more known leaves =
     subst (λ (n : cleanup.State). GoesOn x u (seen_cleaning waiting s) outcome.Ok (reply.Working (cleanup.left_of n)) (with_up (with_deletion past moment i at x) u) (Some (seen_cleaning waiting n))) (sym leaves)
     (deletes moment at past waiting s i l x u same run kept more known)
+
+-- ---- what ends a publication whose intent is not noted
+
+-- it ends with the fault as the answer
+ends_quietly : (intended : Bool) (x : m.Side) (u : m.Up) (fault : Reply) → intended ≡ false → FaultEnds intended x u fault fault (with_up x u)
+ends_quietly true x u fault e = absurd (false≢true (sym e))
+ends_quietly false x u fault e = (refl, refl)
+
+pub read_fails : ReadFails
+read_fails q outcome.Ok x u quiet not = absurd (not refl)
+read_fails q outcome.Fail x u quiet not = (ends_quietly q.intended x u reply.StoreFault quiet, refl)
+read_fails q outcome.Lost x u quiet not = (ends_quietly q.intended x u reply.StoreFault quiet, refl)
+
+pub read_finds_fault : ReadFindsFault
+read_finds_fault q fault.VersionsFull x u quiet found = ((reply.VersionsFull, found, ends_quietly q.intended x u reply.VersionsFull quiet), refl)
+read_finds_fault q fault.Exists x u quiet found = ((reply.Exists, found, ends_quietly q.intended x u reply.Exists quiet), refl)
+read_finds_fault q fault.PageTooLarge x u quiet found = ((reply.PageTooLarge, found, ends_quietly q.intended x u reply.PageTooLarge quiet), refl)
+read_finds_fault q fault.TooLarge x u quiet found = ((reply.TooLarge, found, ends_quietly q.intended x u reply.TooLarge quiet), refl)
+read_finds_fault q fault.TooManyDatabases x u quiet found = ((reply.TooManyDatabases, found, ends_quietly q.intended x u reply.TooManyDatabases quiet), refl)
+read_finds_fault q fault.NoDatabase x u quiet found = ((reply.NoDatabase, found, ends_quietly q.intended x u reply.NoDatabase quiet), refl)
+read_finds_fault q (fault.Conflict mine theirs) x u quiet found = ((reply.Conflict mine theirs, found, ends_quietly q.intended x u (reply.Conflict mine theirs) quiet), refl)
+read_finds_fault q fault.WritersFull x u quiet found = ((reply.WritersFull, found, ends_quietly q.intended x u reply.WritersFull quiet), refl)
+read_finds_fault q fault.DeleteListFull x u quiet found = ((reply.DeleteListFull, found, ends_quietly q.intended x u reply.DeleteListFull quiet), refl)
+read_finds_fault q fault.ManifestTooLong x u quiet found = ((reply.ManifestTooLong, found, ends_quietly q.intended x u reply.ManifestTooLong quiet), refl)
+
+pub read_finds_none : ReadFindsNone
+read_finds_none q x u quiet found = ((reply.NoContainer, found, ends_quietly q.intended x u reply.NoContainer quiet), refl)
+
+pub request_fails : RequestFails
+request_fails q outcome.Ok x u quiet not = absurd (not refl)
+request_fails q outcome.Fail x u quiet not = ((reply.StoreFault, refl, ends_quietly q.intended (requested x q outcome.Fail) u reply.StoreFault quiet), refl)
+request_fails q outcome.Lost x u quiet not = ((reply.StoreFault, refl, ends_quietly q.intended (requested x q outcome.Lost) u reply.StoreFault quiet), refl)
+
+pub request_finds_gone : RequestFindsGone
+request_finds_gone q x u quiet gone = ((reply.Gone, gone, ends_quietly q.intended (requested x q outcome.Ok) u reply.Gone quiet), refl)

@@ -2,6 +2,7 @@
 use Rattle.std.specs.Prelude.{◌≡◌, ℕ, Bool, true, false, List, [], ◌∷◌, Option, Some, None}
 use Rattle.bcv_base.specs.declared.id.Id16.{Id16}
 use Rattle.bcv_base.specs.declared.manifest.Manifest.{Manifest}
+use Rattle.bcv_base.specs.declared.outcome.Outcome.{Outcome}
 use Rattle.bcv_base.specs.declared.outcome.Outcome.TheVariants as outcome
 use Rattle.bcv_base.specs.declared.seen.Latest.{Latest}
 use Rattle.bcv_base.specs.declared.seen.Seen.{Seen}
@@ -16,8 +17,9 @@ use Rattle.bcv_dbcopy.specs.State as copy
 use Rattle.bcv_dbcopy.specs.TaskWork as copying
 use Rattle.bcv_dbmap.specs.Past.{is_old}
 use Rattle.bcv_dbmap.specs.Sound.{Sound}
-use Rattle.bcv_machine.specs.ManifestGet.{GetsManifest}
-use Rattle.bcv_machine.specs.MiddleStep.{GoesOn}
+use Rattle.bcv_dbmap.specs.declared.fault.EditFault.{EditFault}
+use Rattle.bcv_machine.specs.ManifestGet.{GetsManifest, IsFound}
+use Rattle.bcv_machine.specs.MiddleStep.{GoesOn, IsGone, requested}
 use Rattle.bcv_machine.specs.State as m
 use Rattle.bcv_machine.specs.State.{with_up}
 use Rattle.bcv_model.specs.declared.kept.PendingPub.{PendingPub}
@@ -28,6 +30,7 @@ use Rattle.bcv_publish.specs.State as publish
 use Rattle.bcv_upload.specs.BlockText.{IsViewOf}
 use Rattle.bcv_upload.specs.State as upload
 use Rattle.bcv_upload.specs.UploadWork as uploading
+use Rattle.bcv_clientstate.specs.CheckLaws.{fault_reply}
 use Rattle.bcv_clientstate.specs.SeenClient.{seen_cleaning, seen_copying, seen_uploading}
 use Rattle.bcv_clientstate.specs.SeenContainer.{HasBase, container_of}
 use Rattle.bcv_clientstate.specs.Stages.{IsStaged, IsSwept}
@@ -106,3 +109,32 @@ CleanupGoesOn =
     → x.container ≡ container_of moment past → cleanup.IsRunning s → s.publish.latest ≡ Some l → cleanup.is_ready s ≡ false → s.moment ≡ Some at
     → cleaning.DeleteLeaves s work.More t
     → GoesOn x u (seen_cleaning waiting s) outcome.Ok (reply.Working (cleanup.left_of t)) (with_up (with_deletion past moment i at x) u) (Some (seen_cleaning waiting t))
+
+-- ---- what ends a publication whose intent is not noted
+
+-- a get that met a fault of the store
+abbrev pub ReadFails : Type 0
+ReadFails = (q : m.Publication) (o : Outcome) (x : m.Side) (u : m.Up) → q.intended ≡ false → (o ≡ outcome.Ok → ⊥) → GetsManifest x u q o reply.StoreFault (with_up x u) None
+
+-- a get that found why the edit can't be published
+abbrev pub ReadFindsFault : Type 0
+ReadFindsFault =
+    (q : m.Publication) (f : EditFault) (x : m.Side) (u : m.Up) → q.intended ≡ false → IsFound x.container q (m.last_version x.container) (fault_reply f)
+    → GetsManifest x u q outcome.Ok (fault_reply f) (with_up x u) None
+
+-- or that there is no container
+abbrev pub ReadFindsNone : Type 0
+ReadFindsNone =
+    (q : m.Publication) (x : m.Side) (u : m.Up) → q.intended ≡ false → IsFound x.container q (m.last_version x.container) reply.NoContainer
+    → GetsManifest x u q outcome.Ok reply.NoContainer (with_up x u) None
+
+-- a request for a block that met a fault of the store
+abbrev pub RequestFails : Type 0
+RequestFails =
+    (q : m.Publication) (o : Outcome) (x : m.Side) (u : m.Up) → q.intended ≡ false → (o ≡ outcome.Ok → ⊥)
+    → GoesOn x u q o reply.StoreFault (with_up (requested x q o) u) None
+
+-- the old bytes of a block of an upload are gone
+abbrev pub RequestFindsGone : Type 0
+RequestFindsGone =
+    (q : m.Publication) (x : m.Side) (u : m.Up) → q.intended ≡ false → IsGone x.container q.kind q.left → GoesOn x u q outcome.Ok reply.Gone (with_up (requested x q outcome.Ok) u) None

@@ -12,7 +12,7 @@ ghost use Rattle.bcv_clientstate.specs.StageLaws.{DeletionStaysSwept, NewIsStage
 ghost use Rattle.bcv_clientstate.specs.StampLaws.{StampsAreMoments};
 ghost use Rattle.bcv_clientstate.specs.StartRefusals.{PollIsRefused, ResolveIsRefused, StartIsRefused, UploadIsOver};
 ghost use Rattle.bcv_clientstate.specs.UpSides.{LoadsWhatIsLeft, RisesAsMachine};
-ghost use Rattle.bcv_clientstate.specs.WorkSides.{CleanupGoesOn, CleanupReads, CopyGoesOn, CopyReads, UploadGoesOn, UploadReads};
+ghost use Rattle.bcv_clientstate.specs.WorkSides.{CleanupGoesOn, CleanupReads, CopyGoesOn, CopyReads, UploadGoesOn, UploadReads, ReadFails, ReadFindsFault, ReadFindsNone, RequestFails, RequestFindsGone};
 ghost use Rattle.bcv_clientstate.specs.PartRefusals.{BeginIsRefused, BusyIsBusy, CommitIsRefused, RevertIsRefused, ViewHasBase, ViewIsView};
 ghost use Rattle.bcv_clientstate.specs.PollSides.{FaultIsPolled, NoneIsPolled, ReadIsPolled};
 ghost use Rattle.bcv_clientstate.specs.PutLaws.{CreateIsFirst, LastIsLastVersion, NoneIsNoVersion, PutIsTheEdit};
@@ -153,4 +153,13 @@ pub fn resolves_find_the_version()
 pub fn crashes_leave_what_is_kept()
     ensures left { LoadsWhatIsLeft }
     ensures rises { RisesAsMachine }
+{}
+
+/// Shows that a fault of the store, of the edit or of a block ends a publication as in the machine, while its intent is not noted.
+pub fn faults_end_publications()
+    ensures read { ReadFails }
+    ensures edit { ReadFindsFault }
+    ensures none { ReadFindsNone }
+    ensures request { RequestFails }
+    ensures gone { RequestFindsGone }
 {}

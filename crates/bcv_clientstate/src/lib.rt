@@ -10,9 +10,10 @@ mod noting;
 
 pub use laws::{
     base_is_database, base_stays, checks_are_the_machines, crashes_leave_what_is_kept,
-    growth_is_harmless, known_is_known, local_calls_are_the_machines, notes_are_steps,
-    notes_are_the_machines, notes_have_sizes, notes_keep_order, outlived_may_be_gone,
-    polls_are_the_machines, puts_are_edits, refusals_are_the_machines, resolves_find_the_version,
-    stages_stay, stamps_are_moments, starts_are_the_machines, works_are_the_machines,
+    faults_end_publications, growth_is_harmless, known_is_known, local_calls_are_the_machines,
+    notes_are_steps, notes_are_the_machines, notes_have_sizes, notes_keep_order,
+    outlived_may_be_gone, polls_are_the_machines, puts_are_edits, refusals_are_the_machines,
+    resolves_find_the_version, stages_stay, stamps_are_moments, starts_are_the_machines,
+    works_are_the_machines,
 };
 pub use noting::notes_are_journaled;
