@@ -9,7 +9,7 @@ use Rattle.bcv_publish.specs.ManifestPut.{refused_once}
 use Rattle.bcv_publish.specs.State as publish
 use Rattle.bcv_upload.specs.State as upload
 use Rattle.bcv_upload.specs.UploadWork as uploading
-use Rattle.bcv_clientstate.specs.StageLaws.{DeletionStaysSwept, NewIsStaged, RefusedIsStaged, RefusedIsSwept, UploadStaysStaged}
+use Rattle.bcv_clientstate.specs.StageLaws.{DeletionStaysSwept, NewIsStaged, ReadingIsSwept, RefusedIsStaged, RefusedIsSwept, UploadStaysStaged}
 use Rattle.bcv_clientstate.specs.Stages.{IsStaged, IsStageOf, IsSwept, IsSweptOf}
 
 pub new_is_staged : NewIsStaged
@@ -31,6 +31,9 @@ by_read s t false seen (Some l) kept leaves = kept_staged t l (ap (λ (n : uploa
 
 pub upload_stays_staged : UploadStaysStaged
 upload_stays_staged s t fetch seen leaves = by_read s t fetch seen s.publish.latest refl leaves
+
+pub reading_is_swept : ReadingIsSwept
+reading_is_swept s t p l at ids more kept becomes = kept_swept t l (ap (λ (n : cleanup.State). n.publish.latest) becomes ∙ kept)
 
 pub deletion_stays_swept : DeletionStaysSwept
 deletion_stays_swept s t l kept leaves = kept_swept t l (ap (λ (n : cleanup.State). n.publish.latest) leaves ∙ kept)

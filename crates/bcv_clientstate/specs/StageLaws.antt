@@ -1,4 +1,4 @@
--- Each step of an upload and of a cleanup leaves it at such a stage.
+-- Each step after which an upload or a cleanup goes on leaves it at such a stage.
 use Rattle.std.specs.Prelude.{◌≡◌, ℕ, Bool, true, List, Some}
 use Rattle.bcv_base.specs.declared.id.Id16.{Id16}
 use Rattle.bcv_base.specs.declared.seen.Latest.{Latest}
@@ -9,6 +9,7 @@ use Rattle.bcv_cleanup.specs.CleanupWork as cleaning
 use Rattle.bcv_cleanup.specs.State as cleanup
 use Rattle.bcv_publish.specs.declared.work.PutEnd.TheVariants as put
 use Rattle.bcv_publish.specs.declared.work.Work.TheVariants as work
+use Rattle.bcv_publish.specs.State as publish
 use Rattle.bcv_upload.specs.State as upload
 use Rattle.bcv_upload.specs.UploadPut as putting
 use Rattle.bcv_upload.specs.UploadWork as uploading
@@ -18,10 +19,17 @@ use Rattle.bcv_clientstate.specs.Stages.{IsStaged, IsSwept}
 abbrev pub NewIsStaged : Type 0
 NewIsStaged = (base : TxnBase) (size : ℕ) (touched : List ℕ) (writer id : Id16) → IsStaged (upload.new_upload base size touched writer id) × IsSwept (cleanup.new_cleanup writer id)
 
--- work that goes on
+-- an upload's work that goes on
 abbrev pub UploadStaysStaged : Type 0
 UploadStaysStaged = (s t : upload.State) (fetch : Bool) (seen : Seen) → uploading.WorkLeaves s.publish.latest fetch seen s work.More t → IsStaged t
 
+-- a cleanup's get that kept a manifest
+abbrev pub ReadingIsSwept : Type 0
+ReadingIsSwept =
+    (s t : cleanup.State) (p : publish.State) (l : Latest) (at : ℕ) (ids : List Id16) (more : Bool)
+    → p.latest ≡ Some l → t ≡ cleaning.with_taken s p at ids more → IsSwept t
+
+-- a deletion
 abbrev pub DeletionStaysSwept : Type 0
 DeletionStaysSwept = (s t : cleanup.State) (l : Latest) → s.publish.latest ≡ Some l → cleaning.DeleteLeaves s work.More t → IsSwept t
 

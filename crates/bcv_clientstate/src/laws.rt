@@ -8,7 +8,7 @@ ghost use Rattle.bcv_clientstate.specs.KeptLaws.{NotesAreSteps, NotesKeepOrder};
 ghost use Rattle.bcv_clientstate.specs.LocalSides.{CommitsAsAsked, RefusesCommit, RefusesRevert, RevertsAsAsked};
 ghost use Rattle.bcv_clientstate.specs.NoteSides.{StandsAsNoted, FailsAsNoted, FullAsNoted};
 ghost use Rattle.bcv_clientstate.specs.ResolveSides.{AtIsFound, FreshIsNotFound, LastIsFound, VoidedIsNotFound};
-ghost use Rattle.bcv_clientstate.specs.StageLaws.{DeletionStaysSwept, NewIsStaged, RefusedIsStaged, RefusedIsSwept, UploadStaysStaged};
+ghost use Rattle.bcv_clientstate.specs.StageLaws.{DeletionStaysSwept, NewIsStaged, ReadingIsSwept, RefusedIsStaged, RefusedIsSwept, UploadStaysStaged};
 ghost use Rattle.bcv_clientstate.specs.StampLaws.{StampsAreMoments};
 ghost use Rattle.bcv_clientstate.specs.StartRefusals.{PollIsRefused, ResolveIsRefused, StartIsRefused, UploadIsOver};
 ghost use Rattle.bcv_clientstate.specs.UpSides.{LoadsWhatIsLeft, RisesAsMachine};
@@ -118,6 +118,7 @@ pub fn works_are_the_machines()
 pub fn stages_stay()
     ensures new { NewIsStaged }
     ensures upload { UploadStaysStaged }
+    ensures reading { ReadingIsSwept }
     ensures deletion { DeletionStaysSwept }
     ensures refused_upload { RefusedIsStaged }
     ensures refused_cleanup { RefusedIsSwept }
