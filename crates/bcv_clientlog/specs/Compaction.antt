@@ -2,8 +2,7 @@
 use Rattle.std.specs.Prelude.{◌≡◌, ◌⊎◌, ℕ, ◌+◌, ◌-◌, ◌*◌, ◌^◌, ◌<◌, ◌≤◌}
 use Rattle.bcv_journal.specs.Moved.{new_start}
 
--- Notes from start to tail give way to the fewest that come to what is kept, which take so many bytes, before a note
--- of
+-- Notes from start to tail give way to the fewest that come to what is kept, which take so many bytes, before a note of
 -- so many more: the log is long, more than half of it is dead, and there is room before it or after it.
 pub record Compacts (start tail size more : ℕ) : Type 0 where
   pub long : 65536 < tail - start

@@ -77,7 +77,6 @@ impl<D: Disk> ClientLog<D> {
     pub fn intent(&mut self, alloc: Global, kept: &Kept, pending: &PendingPub) -> Noted
         ensures notes { LogCompacts D.told D.shown self.old self.new kept.now (Intent pending.now) result }
         ensures waits { result ≡ Noted.Done → is_waiting self.new ≡ true }
-        ensures stays { result ≢ Noted.Done → is_waiting self.new ≡ is_waiting self.old }
     {
         self.dense = is_dense(&self.journal, kept, self.dense);
         let text = intent_note(alloc, pending);
@@ -93,7 +92,6 @@ impl<D: Disk> ClientLog<D> {
         requires waits { is_waiting self.old ≡ true }
         ensures notes { LogNotes D.told D.shown self.old self.new (Done id.now number) result }
         ensures fits { result ≢ Noted.JournalFull }
-        ensures stays { result ≢ Noted.Done → is_waiting self.new ≡ is_waiting self.old }
     {
         let _ = id.bytes();
         self.dense = false;
@@ -109,7 +107,6 @@ impl<D: Disk> ClientLog<D> {
         requires waits { is_waiting self.old ≡ true }
         ensures notes { LogNotes D.told D.shown self.old self.new (Void id.now) result }
         ensures fits { result ≢ Noted.JournalFull }
-        ensures stays { result ≢ Noted.Done → is_waiting self.new ≡ is_waiting self.old }
     {
         let _ = id.bytes();
         self.dense = false;
