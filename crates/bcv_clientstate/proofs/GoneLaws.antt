@@ -28,7 +28,7 @@ use Rattle.bcv_clientstate.proofs.KeyedMaps.{keyed_map}
 -- ---- entries
 
 -- what is found by a name is among the entries
-found_among : (name : List ℕ) (ds : List DbEntry) (d : DbEntry) → keyed db_name name ds ≡ Some d → IsAmong d ds
+pub found_among : (name : List ℕ) (ds : List DbEntry) (d : DbEntry) → keyed db_name name ds ≡ Some d → IsAmong d ds
 found_among name [] d h = absurd (cc)
 found_among name (x ∷ xs) d h =
     by_test (bytes_eq (db_name x) name)
@@ -42,28 +42,28 @@ pub record Split (past : List Item) (m : Manifest) : Type 0 where
   pub before : List Item
   pub is : past ≡ later ++ Published m ∷ before
 
-split_at : (past : List Item) (m : Manifest) → IsPublished m past → Split past m
+pub split_at : (past : List Item) (m : Manifest) → IsPublished m past → Split past m
 split_at [] m there = absurd there
 split_at (x ∷ past) m (inl is) = record { later = []; before = past; is = ap (λ (y : Item). y ∷ past) is }
 split_at (x ∷ past) m (inr there) = let s = split_at past m there in record { later = x ∷ s.later; before = s.before; is = ap (λ (l : List Item). x ∷ l) s.is }
 
-reads_before : (later before : List Item) (m : Manifest) → Always Reads (later ++ Published m ∷ before) → IsVersion before m
+pub reads_before : (later before : List Item) (m : Manifest) → Always Reads (later ++ Published m ∷ before) → IsVersion before m
 reads_before [] before m reads = reads.1
 reads_before (x ∷ xs) before m reads = reads_before xs before m reads.0
 
-count_more : (x : Item) (past : List Item) → count_of past ≤ count_of (x ∷ past)
+pub count_more : (x : Item) (past : List Item) → count_of past ≤ count_of (x ∷ past)
 count_more (BlockPut i bytes) past = omega arith
 count_more (Published k) past = omega arith
 count_more Unreadable past = omega arith
 count_more (BlockDeleted i at) past = omega arith
 count_more ManifestDeleted past = omega arith
 
-count_later : (later past : List Item) → count_of past ≤ count_of (later ++ past)
+pub count_later : (later past : List Item) → count_of past ≤ count_of (later ++ past)
 count_later [] past = omega arith
 count_later (x ∷ xs) past = let a = count_later xs past in let b = count_more x (xs ++ past) in omega (arith, a, b)
 
 -- what was published later has a greater number
-number_later : (later before : List Item) (m k : Manifest) → Always Reads (later ++ Published m ∷ before) → IsPublished k later → m.number < k.number
+pub number_later : (later before : List Item) (m k : Manifest) → Always Reads (later ++ Published m ∷ before) → IsPublished k later → m.number < k.number
 number_later [] before m k reads there = absurd there
 number_later (x ∷ xs) before m k reads (inl is) =
     let reads_x : Reads (xs ++ Published m ∷ before) (Published k) = subst (λ (y : Item). Reads (xs ++ Published m ∷ before) y) is reads.1 in
@@ -73,12 +73,12 @@ number_later (x ∷ xs) before m k reads (inl is) =
     omega (arith, a, b, c)
 number_later (x ∷ xs) before m k reads (inr there) = number_later xs before m k reads.0 there
 
-published_in : (later rest : List Item) (k : Manifest) → IsPublished k later → IsPublished k (later ++ rest)
+pub published_in : (later rest : List Item) (k : Manifest) → IsPublished k later → IsPublished k (later ++ rest)
 published_in [] rest k there = absurd there
 published_in (x ∷ xs) rest k (inl is) = inl is
 published_in (x ∷ xs) rest k (inr there) = inr (published_in xs rest k there)
 
-deleted_in : (later rest : List Item) (i : Id16) (at : ℕ) → IsDeletedIn later i at → IsDeletedIn (later ++ rest) i at
+pub deleted_in : (later rest : List Item) (i : Id16) (at : ℕ) → IsDeletedIn later i at → IsDeletedIn (later ++ rest) i at
 deleted_in [] rest i at there = absurd there
 deleted_in (x ∷ xs) rest i at (inl is) = inl is
 deleted_in (x ∷ xs) rest i at (inr there) = inr (deleted_in xs rest i at there)
@@ -90,15 +90,15 @@ pub record SweptBy (past : List Item) (at : ℕ) : Type 0 where
   pub is : swept_of past ≡ Some greatest
   pub least : at ≤ greatest
 
-swept_more : (at moment : ℕ) (o : Option ℕ) (greatest : ℕ) → o ≡ Some greatest → at ≤ greatest → (g : ℕ) × (swept_at moment o ≡ Some g) × (at ≤ g)
+pub swept_more : (at moment : ℕ) (o : Option ℕ) (greatest : ℕ) → o ≡ Some greatest → at ≤ greatest → (g : ℕ) × (swept_at moment o ≡ Some g) × (at ≤ g)
 swept_more at moment None greatest is le = absurd (cc)
 swept_more at moment (Some earlier) greatest is le = let same : earlier ≡ greatest = cc in (max earlier moment, refl, omega (arith, same, le))
 
-swept_now : (moment : ℕ) (o : Option ℕ) → (g : ℕ) × (swept_at moment o ≡ Some g) × (moment ≤ g)
+pub swept_now : (moment : ℕ) (o : Option ℕ) → (g : ℕ) × (swept_at moment o ≡ Some g) × (moment ≤ g)
 swept_now moment None = (moment, refl, omega arith)
 swept_now moment (Some earlier) = (max earlier moment, refl, omega arith)
 
-swept_by : (past : List Item) (i : Id16) (at : ℕ) → IsDeletedIn past i at → SweptBy past at
+pub swept_by : (past : List Item) (i : Id16) (at : ℕ) → IsDeletedIn past i at → SweptBy past at
 swept_by [] i at there = absurd there
 swept_by (BlockPut j bytes ∷ past) i at (inl is) = absurd (cc)
 swept_by (BlockPut j bytes ∷ past) i at (inr there) = let s = swept_by past i at there in record { greatest = s.greatest; is = s.is; least = s.least }

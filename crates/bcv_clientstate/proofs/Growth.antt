@@ -29,7 +29,8 @@ use Rattle.bcv_publish.specs.State as publish
 use Rattle.bcv_clientstate.specs.BaseLaws.{FitsLocal}
 use Rattle.bcv_clientstate.specs.Fits.{FitsEntry, FitsJob, FitsKnown, FitsPending, FitsPublish, FitsSeen, FitsTask, FitsTxn}
 use Rattle.bcv_clientstate.specs.GrowthLaws.{GrowthFits, GrowthLeavesClient}
-use Rattle.bcv_clientstate.specs.Parts.{Known, OpenTxn, Job, Fetching, Polling, Creating, Copying, Uploading as Uploads, Cleaning, Resolving, Task, Parts, mine_of, names_of_job, names_of_pending}
+use Rattle.bcv_databases.specs.declared.known.Known.{Known}
+use Rattle.bcv_clientstate.specs.Parts.{OpenTxn, Job, Fetching, Polling, Creating, Copying, Uploading as Uploads, Cleaning, Resolving, Task, Parts, mine_of, names_of_job, names_of_pending}
 use Rattle.bcv_clientstate.specs.SeenClient.{seen_client, seen_txn, seen_up}
 use Rattle.bcv_clientstate.specs.SeenContainer.{HasBase}
 use Rattle.bcv_dbmap.proofs.KeptLaws.{kept_longer}
@@ -43,32 +44,32 @@ use Rattle.bcv_clientstate.proofs.KeyedMaps.{keyed_map}
 
 -- ---- lists and options
 
-all_kept : {A : Type 0} (P Q : A → Type 0) → ((x : A) → P x → Q x) → (xs : List A) → AllByRecursion P xs → AllByRecursion Q xs
+pub all_kept : {A : Type 0} (P Q : A → Type 0) → ((x : A) → P x → Q x) → (xs : List A) → AllByRecursion P xs → AllByRecursion Q xs
 all_kept P Q f [] all = tt
 all_kept P Q f (x ∷ xs) all = (f x all.0, all_kept P Q f xs all.1)
 
-some_kept : {A : Type 0} (P Q : A → Type 0) → ((x : A) → P x → Q x) → (o : Option A) → IfSome o P → IfSome o Q
+pub some_kept : {A : Type 0} (P Q : A → Type 0) → ((x : A) → P x → Q x) → (o : Option A) → IfSome o P → IfSome o Q
 some_kept P Q f None h = tt
 some_kept P Q f (Some x) h = f x h
 
-same_maps : {A B : Type 0} (f g : A → B) (P : A → Type 0) → ((x : A) → P x → f x ≡ g x) → (xs : List A) → AllByRecursion P xs → map f xs ≡ map g xs
+pub same_maps : {A B : Type 0} (f g : A → B) (P : A → Type 0) → ((x : A) → P x → f x ≡ g x) → (xs : List A) → AllByRecursion P xs → map f xs ≡ map g xs
 same_maps f g P e [] all = refl
 same_maps f g P e (x ∷ xs) all = ap (λ y. y ∷ map f xs) (e x all.0) ∙ ap (λ ys. g x ∷ ys) (same_maps f g P e xs all.1)
 
 -- ---- counts and first puts
 
-more_counted : (x : Item) (past : List Item) → count_of past ≤ count_of (x ∷ past)
+pub more_counted : (x : Item) (past : List Item) → count_of past ≤ count_of (x ∷ past)
 more_counted (BlockPut i bytes) past = omega arith
 more_counted (Published k) past = omega arith
 more_counted Unreadable past = omega arith
 more_counted (BlockDeleted i at) past = omega arith
 more_counted ManifestDeleted past = omega arith
 
-rising : (past : List Item) (log : List Entry) (n : ℕ) → n ≤ count_of past → n ≤ count_of (history_after past log)
+pub rising : (past : List Item) (log : List Entry) (n : ℕ) → n ≤ count_of past → n ≤ count_of (history_after past log)
 rising past [] n le = le
 rising past (e ∷ es) n le = let more = more_counted (item_of e) past in rising (item_of e ∷ past) es n (omega arith)
 
-put_later : (past : List Item) (log : List Entry) (i : Id16) (bytes : List ℕ) → first_put past i ≡ Some bytes → first_put (history_after past log) i ≡ Some bytes
+pub put_later : (past : List Item) (log : List Entry) (i : Id16) (bytes : List ℕ) → first_put past i ≡ Some bytes → first_put (history_after past log) i ≡ Some bytes
 put_later past [] i bytes h = h
 put_later past (e ∷ es) i bytes h = put_later (item_of e ∷ past) es i bytes (first_put-stays (item_of e) past i bytes h)
 
@@ -157,16 +158,16 @@ module _ (mine : List Id16) (writer : Id16) (log others : List Entry) (sound : I
   job_later k Resolving fits = tt
 
 -- the id of the pending publication is mine
-pending_mine : (p : Parts) (x : PendingPub) → p.kept.pending ≡ Some x → has_id x.id (mine_of p) ≡ true
+pub pending_mine : (p : Parts) (x : PendingPub) → p.kept.pending ≡ Some x → has_id x.id (mine_of p) ≡ true
 pending_mine p x e =
     let rest : List Id16 = flat_map (λ (t : Task). names_of_job t.job) p.tasks in
     has_id-later x.id p.id (names_of_pending p.kept.pending ++ rest)
     (subst (λ (o : Option PendingPub). has_id x.id (names_of_pending o ++ rest) ≡ true) (sym e) (has_id-first x.id rest))
 
-writer_mine : (p : Parts) → has_id p.id (mine_of p) ≡ true
+pub writer_mine : (p : Parts) → has_id p.id (mine_of p) ≡ true
 writer_mine p = has_id-first p.id (names_of_pending p.kept.pending ++ flat_map (λ (t : Task). names_of_job t.job) p.tasks)
 
-pending_fits : (log others : List Entry) (p : Parts) (o : Option PendingPub) → p.kept.pending ≡ o → IsSoundLog log → AreLawful (mine_of p) (history_of log) others
+pub pending_fits : (log others : List Entry) (p : Parts) (o : Option PendingPub) → p.kept.pending ≡ o → IsSoundLog log → AreLawful (mine_of p) (history_of log) others
     → IfSome o (FitsPending (history_of log) p.id) → IfSome o (FitsPending (history_of (log ++ others)) p.id)
 pending_fits log others p None e sound lawful fits = tt
 pending_fits log others p (Some x) e sound lawful fits = pending_later (mine_of p) p.id log others sound lawful x (writer_mine p) (pending_mine p x e) fits

@@ -17,9 +17,10 @@ use Rattle.bcv_machine.specs.State.{local_name}
 use Rattle.bcv_model.specs.declared.kept.Kept.{Kept}
 use Rattle.bcv_model.specs.declared.kept.Local.{Local}
 use Rattle.bcv_model.specs.Notes.{kept_name}
-use Rattle.bcv_clientstate.specs.Fits.{FitsKnown, known_name}
+use Rattle.bcv_clientstate.specs.Fits.{FitsKnown}
+use Rattle.bcv_databases.specs.Catalog.{known_name}
 use Rattle.bcv_clientstate.specs.KnownLaws.{KnownFits, KnownIsKnown, has_none, known_in}
-use Rattle.bcv_clientstate.specs.Parts.{Known}
+use Rattle.bcv_databases.specs.declared.known.Known.{Known}
 use Rattle.bcv_clientstate.specs.SeenClient.{seen_known}
 use Rattle.bcv_clientstate.specs.SeenKept.{seen_kept, seen_local}
 use Rattle.bcv_dbmap.proofs.Keys.{above_found, before_other, key_same, keyed_here, keyed_there}

@@ -17,7 +17,7 @@ use Rattle.bcv_model.specs.declared.note.Note.TheVariants as note
 use Rattle.bcv_model.specs.declared.reply.Reply.{Reply}
 use Rattle.bcv_model.specs.declared.reply.Reply.TheVariants as reply
 use Rattle.bcv_model.specs.Notes.{after_note, kept_name, note_size}
-use Rattle.bcv_clientstate.specs.Fits.{known_name}
+use Rattle.bcv_databases.specs.Catalog.{known_name}
 use Rattle.bcv_clientstate.specs.Journaled.{free_noted}
 use Rattle.bcv_clientstate.specs.LocalSides.{CommitsAsAsked, EndsLocally, RefusesCommit, RefusesRevert, RevertsAsAsked, committed, known_again, reverted, shut}
 use Rattle.bcv_clientstate.specs.NoteSides.{EndsPublication, MayNote, while_up, with_note}
@@ -31,7 +31,7 @@ use Rattle.bcv_clientstate.proofs.NoteSides.{fails_as_noted, full_as_noted, stan
 use Rattle.bcv_clientstate.proofs.PartRefusals.{commit_is_refused, revert_is_refused, view_is_view}
 
 -- the note of a commit leaves the pending publication
-pending_left : (k : Kept) (x : bytes.Note) (db : List ℕ) (base : ℕ) (w : Writes) → seen_note k x ≡ Some (m.Committing db base w) → (after_note k x).pending ≡ k.pending
+pub pending_left : (k : Kept) (x : bytes.Note) (db : List ℕ) (base : ℕ) (w : Writes) → seen_note k x ≡ Some (m.Committing db base w) → (after_note k x).pending ≡ k.pending
 pending_left k (note.Me id) db base w is = absurd (cc)
 pending_left k (note.First entry number block commit) db base w is = refl
 pending_left k (note.Committed name commit) db base w is = refl
@@ -41,7 +41,7 @@ pending_left k (note.Void id) db base w is = absurd (cc)
 pending_left k (note.Revert name) db base w is = absurd (cc)
 
 -- the note does not end a publication
-ends_none : (db : List ℕ) (base : ℕ) (w : Writes) → EndsPublication (m.Committing db base w) → ⊥
+pub ends_none : (db : List ℕ) (base : ℕ) (w : Writes) → EndsPublication (m.Committing db base w) → ⊥
 ends_none db base w ends = ends
 
 -- ---- how a note of one's own ends

@@ -31,7 +31,7 @@ spare_least (note.Void id) = omega arith
 spare_least (note.Revert db) = omega arith
 
 -- an image that was left since the call began, in the words of what is kept
-arrived : (image : List ℕ) (k : Kept) (x : bytes.Note) (y : m.Note) (reach most : ℕ) → MayStand k x → seen_note k x ≡ Some y → reach + 2 * (5 + note_size x) ≤ most
+pub arrived : (image : List ℕ) (k : Kept) (x : bytes.Note) (y : m.Note) (reach most : ℕ) → MayStand k x → seen_note k x ≡ Some y → reach + 2 * (5 + note_size x) ≤ most
     → LoadsUpTo k reach (x ∷ []) image → HoldsKept image k most (Some y)
 arrived image k x y reach most may is le (inl l) = inl (loads_within image k reach most (omega (arith, le)) l)
 arrived image k x y reach most may is le (inr l) =
@@ -45,7 +45,7 @@ by_cond false x y z e = inr e
 by_start : (size start tail begin : ℕ) → begin ≡ new_start size start tail → (begin ≡ 17) ⊎ (begin ≡ tail + 1)
 by_start size start tail begin e = by_cond (nat_le (18 + size) start) 17 (tail + 1) begin e
 
-moved_within : (start tail size begin end most : ℕ) → start ≤ tail → 65536 < tail - start → 2 * (size + 1) ≤ tail - start → tail + (tail - start) ≤ most → end ≡ begin + size
+pub moved_within : (start tail size begin end most : ℕ) → start ≤ tail → 65536 < tail - start → 2 * (size + 1) ≤ tail - start → tail + (tail - start) ≤ most → end ≡ begin + size
     → (begin ≡ 17) ⊎ (begin ≡ tail + 1) → end ≤ most
 moved_within start tail size begin end most order long halves within e (inl b) = omega (arith, order, long, halves, within, e, b)
 moved_within start tail size begin end most order long halves within e (inr b) = omega (arith, order, long, halves, within, e, b)

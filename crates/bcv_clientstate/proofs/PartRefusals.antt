@@ -21,9 +21,11 @@ use Rattle.bcv_model.specs.declared.reply.Reply.{Reply}
 use Rattle.bcv_model.specs.declared.reply.Reply.TheVariants as reply
 use Rattle.bcv_model.specs.Notes.{kept_name}
 use Rattle.bcv_clientstate.specs.BaseLaws.{FitsLocal}
-use Rattle.bcv_clientstate.specs.Fits.{FitsKnown, known_name}
+use Rattle.bcv_clientstate.specs.Fits.{FitsKnown}
+use Rattle.bcv_databases.specs.Catalog.{known_name}
 use Rattle.bcv_clientstate.specs.PartRefusals.{BeginIsRefused, BusyIsBusy, CommitIsRefused, IsViewOver, PartView, RevertIsRefused, ViewHasBase, ViewIsView, bad_commit, is_publishing, known_part, large_commit, local_part, part_view, runs_publication, seen_view}
-use Rattle.bcv_clientstate.specs.Parts.{Known, Job, Fetching, Polling, Creating, Copying, Uploading, Cleaning, Resolving, Task, Parts}
+use Rattle.bcv_databases.specs.declared.known.Known.{Known}
+use Rattle.bcv_clientstate.specs.Parts.{Job, Fetching, Polling, Creating, Copying, Uploading, Cleaning, Resolving, Task, Parts}
 use Rattle.bcv_clientstate.specs.SeenClient.{Free, seen_job, seen_known, seen_task, seen_up}
 use Rattle.bcv_clientstate.specs.SeenContainer.{container_of}
 use Rattle.bcv_clientstate.specs.SeenKept.{seen_kept, seen_local}

@@ -8,14 +8,14 @@ use Rattle.bcv_model.specs.declared.kept.Local.{Local}
 use Rattle.bcv_model.specs.Notes.{kept_name, replaced_local}
 use Rattle.bcv_dbmap.proofs.Keys.{by_test, same_key, keyed_here, keyed_there, with_over, with_later, without_here, without_there, above_none, above_found, before_back}
 
-some_none : (x : Local) → Some x ≡ None → ⊥
+pub some_none : (x : Local) → Some x ≡ None → ⊥
 some_none x e = cc
 
 -- one step of a change
-changed_here : (change : Local → List Local) (db : List ℕ) (x : Local) (xs : List Local) → bytes_eq (kept_name x) db ≡ true → replaced_local change db (x ∷ xs) ≡ change x ++ xs
+pub changed_here : (change : Local → List Local) (db : List ℕ) (x : Local) (xs : List Local) → bytes_eq (kept_name x) db ≡ true → replaced_local change db (x ∷ xs) ≡ change x ++ xs
 changed_here change db x xs e = ap (λ (b : Bool). cond b (change x ++ xs) (x ∷ replaced_local change db xs)) e
 
-changed_there : (change : Local → List Local) (db : List ℕ) (x : Local) (xs : List Local) → bytes_eq (kept_name x) db ≡ false → replaced_local change db (x ∷ xs) ≡ x ∷ replaced_local change db xs
+pub changed_there : (change : Local → List Local) (db : List ℕ) (x : Local) (xs : List Local) → bytes_eq (kept_name x) db ≡ false → replaced_local change db (x ∷ xs) ≡ x ∷ replaced_local change db xs
 changed_there change db x xs e = ap (λ (b : Bool). cond b (change x ++ xs) (x ∷ replaced_local change db xs)) e
 
 -- nothing is taken out or changed where there is nothing

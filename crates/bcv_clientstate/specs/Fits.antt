@@ -31,7 +31,9 @@ use Rattle.bcv_upload.specs.UploadWork as uploading
 use Rattle.bcv_base.specs.declared.manifest.Manifest.{Manifest}
 use Rattle.bcv_clientstate.specs.BaseLaws.{FitsLocal}
 use Rattle.bcv_clientstate.specs.KeptLaws.{IsOrdered}
-use Rattle.bcv_clientstate.specs.Parts.{Known, OpenTxn, Job, Fetching, Polling, Creating, Copying, Uploading, Cleaning, Resolving, Task, Parts, mine_of}
+use Rattle.bcv_databases.specs.declared.known.Known.{Known}
+use Rattle.bcv_databases.specs.Catalog.{known_name}
+use Rattle.bcv_clientstate.specs.Parts.{OpenTxn, Job, Fetching, Polling, Creating, Copying, Uploading, Cleaning, Resolving, Task, Parts, mine_of}
 use Rattle.bcv_clientstate.specs.SeenContainer.{HasBase}
 use Rattle.bcv_clientstate.specs.Stages.{IsStagedTask}
 
@@ -105,9 +107,6 @@ abbrev pub FitsEntry : List Item → cache.Entry → Type 0
 FitsEntry past e = first_put past e.id ≡ Some e.bytes
 
 -- ---- the client
-
-abbrev pub known_name : Known → List ℕ
-known_name k = k.entry.name
 
 pub record Fits (p : Parts) (entries : List cache.Entry) (log : List Entry) : Type 0 where
   pub named : p.kept.me ≡ Some p.id

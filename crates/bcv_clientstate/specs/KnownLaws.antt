@@ -12,8 +12,9 @@ use Rattle.bcv_dbmap.specs.Sound.{Sound}
 use Rattle.bcv_machine.specs.State as m
 use Rattle.bcv_model.specs.declared.kept.Kept.{Kept}
 use Rattle.bcv_model.specs.Notes.{kept_name}
-use Rattle.bcv_clientstate.specs.Fits.{FitsKnown, known_name}
-use Rattle.bcv_clientstate.specs.Parts.{Known}
+use Rattle.bcv_databases.specs.Catalog.{known_name}
+use Rattle.bcv_clientstate.specs.Fits.{FitsKnown}
+use Rattle.bcv_databases.specs.declared.known.Known.{Known}
 use Rattle.bcv_clientstate.specs.SeenClient.{seen_known}
 use Rattle.bcv_clientstate.specs.SeenKept.{seen_kept}
 

@@ -14,11 +14,13 @@ use Rattle.bcv_model.specs.declared.note.Note.TheVariants as note
 use Rattle.bcv_model.specs.declared.reply.Reply.{Reply}
 use Rattle.bcv_model.specs.declared.reply.Reply.TheVariants as reply
 use Rattle.bcv_model.specs.Notes.{kept_name, note_size}
-use Rattle.bcv_clientstate.specs.Fits.{Fits, known_name}
+use Rattle.bcv_databases.specs.Catalog.{known_name}
+use Rattle.bcv_clientstate.specs.Fits.{Fits}
 use Rattle.bcv_clientstate.specs.Journaled.{free_failed, free_noted}
 use Rattle.bcv_clientstate.specs.NoteSides.{MayNote, with_note}
 use Rattle.bcv_clientstate.specs.PartRefusals.{PartView, commit_reason, part_view, revert_reason}
-use Rattle.bcv_clientstate.specs.Parts.{Known, Parts}
+use Rattle.bcv_databases.specs.declared.known.Known.{Known}
+use Rattle.bcv_clientstate.specs.Parts.{Parts}
 use Rattle.bcv_clientstate.specs.SeenClient.{Free, seen_up, side_of}
 
 -- ---- the client afterwards

@@ -19,8 +19,10 @@ use Rattle.bcv_model.specs.declared.reply.Reply.{Reply}
 use Rattle.bcv_model.specs.declared.reply.Reply.TheVariants as reply
 use Rattle.bcv_model.specs.Commits.{writes_of}
 use Rattle.bcv_model.specs.Notes.{kept_name}
-use Rattle.bcv_clientstate.specs.Fits.{Fits, known_name}
-use Rattle.bcv_clientstate.specs.Parts.{Known, Job, Fetching, Polling, Creating, Copying, Uploading, Cleaning, Resolving, Task, Parts}
+use Rattle.bcv_databases.specs.Catalog.{known_name}
+use Rattle.bcv_clientstate.specs.Fits.{Fits}
+use Rattle.bcv_databases.specs.declared.known.Known.{Known}
+use Rattle.bcv_clientstate.specs.Parts.{Job, Fetching, Polling, Creating, Copying, Uploading, Cleaning, Resolving, Task, Parts}
 use Rattle.bcv_clientstate.specs.SeenClient.{Free, seen_up, side_of}
 use Rattle.bcv_clientstate.specs.SeenContainer.{HasBase}
 use Rattle.bcv_clientstate.specs.SeenKept.{seen_kept}

@@ -2,23 +2,17 @@
 use Rattle.std.specs.Prelude.{ℕ, Bool, List, [], ◌∷◌, ◌++◌, Option, Some, None}
 use Rattle.std.specs.List.{flat_map}
 use Rattle.bcv_base.specs.declared.id.Id16.{Id16}
-use Rattle.bcv_base.specs.declared.manifest.DbEntry.{DbEntry}
 use Rattle.bcv_base.specs.declared.seen.Latest.{Latest}
 use Rattle.bcv_base.specs.declared.seen.Seen.{Seen}
 use Rattle.bcv_base.specs.Image.{Writes}
 use Rattle.bcv_cleanup.specs.State as cleanup
+use Rattle.bcv_databases.specs.declared.known.Known.{Known}
 use Rattle.bcv_dbcopy.specs.State as copy
 use Rattle.bcv_machine.specs.State.{Access}
 use Rattle.bcv_model.specs.declared.kept.Kept.{Kept}
 use Rattle.bcv_model.specs.declared.kept.PendingPub.{PendingPub}
 use Rattle.bcv_snapshot.specs.Opened.{Opened}
 use Rattle.bcv_upload.specs.State as upload
-
--- a known database without commits: its entry, the number of its version and the size of its blocks
-pub record Known : Type 0 where
-  pub entry : DbEntry
-  pub number : ℕ
-  pub block : ℕ
 
 -- an open transaction: its number, what it keeps, and the commits of its view
 pub record OpenTxn : Type 0 where

@@ -16,7 +16,8 @@ use Rattle.bcv_publish.specs.State as publish
 use Rattle.bcv_snapshot.specs.declared.held_block.HeldBlock.{HeldBlock}
 use Rattle.bcv_upload.specs.State as upload
 use Rattle.bcv_machine.specs.State as m
-use Rattle.bcv_clientstate.specs.Parts.{Known, OpenTxn, Job, Fetching, Polling, Creating, Copying, Uploading, Cleaning, Resolving, Task, Parts}
+use Rattle.bcv_databases.specs.declared.known.Known.{Known}
+use Rattle.bcv_clientstate.specs.Parts.{OpenTxn, Job, Fetching, Polling, Creating, Copying, Uploading, Cleaning, Resolving, Task, Parts}
 use Rattle.bcv_clientstate.specs.SeenContainer.{container_of}
 use Rattle.bcv_clientstate.specs.SeenKept.{seen_kept}
 
