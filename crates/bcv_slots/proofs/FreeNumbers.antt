@@ -1,5 +1,5 @@
 -- The least free number is among those from 1 to one more than there are slots.
-use Rattle.std.proofs.Common.{◌≡◌, ◌==◌, ℕ, zero, suc, ◌+◌, ◌<◌, ◌≤◌, Bool, true, false, true≢false, not, cond, ◌||◌, List, [], ◌∷◌, length, filter, find, Option, Some, refl, sym, ap, ◌∙◌, subst, arith, inl, inr}
+use Rattle.std.proofs.Common.{◌≡◌, ◌==◌, ℕ, zero, suc, ◌+◌, ◌<◌, ◌≤◌, Bool, true, false, true≢false, not, cond, ◌||◌, List, [], ◌∷◌, length, filter, find, Some, refl, sym, ap, ◌∙◌, subst, arith, inl, inr}
 use Rattle.std.proofs.lemmas.Bool.{cases_eq, eqb-true, ne_eqb}
 use Rattle.std.specs.List.{range_with_len}
 use Rattle.bcv_slots.specs.Numbered.{has_number, least_free}
@@ -69,6 +69,7 @@ found_from test from (suc count) n low high before is =
   where
     less : (from ≡ n → ⊥) → from < n
     less ne = omega (arith, ne, low)
+
     later : (from ≡ n → ⊥) → from + 1 ≤ n
     later ne = omega (arith, ne, low)
 

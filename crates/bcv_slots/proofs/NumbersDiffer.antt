@@ -1,10 +1,10 @@
 -- Numbers stay different.
-use Rattle.std.proofs.Common.{◌≡◌, ◌∙◌, ◌==◌, ℕ, Bool, true, false, not, cond, ◌||◌, List, [], ◌∷◌, ◌++◌, map, filter, find, Option, Some, None, refl, sym, ap}
-use Rattle.std.specs.List.{list_any, range_with_len}
+use Rattle.std.proofs.Common.{◌≡◌, ◌∙◌, ◌==◌, ℕ, Bool, true, false, not, cond, List, [], ◌∷◌, ◌++◌, filter, find, Some, None, refl, sym, ap}
+use Rattle.std.specs.List.{range_with_len}
 use Rattle.std.proofs.lemmas.Bool.{eqb-true, eqb-false, ne_eqb, or_parts, or_from}
 use Rattle.std.proofs.lemmas.Option.{same_Some}
 use Rattle.bcv_slots.specs.declared.Slot.{Slot}
-use Rattle.bcv_slots.specs.Numbered.{AreDifferent, but_for, has_number, least_free, numbers_of, other_slots, without_number}
+use Rattle.bcv_slots.specs.Numbered.{AreDifferent, but_for, has_number, numbers_of, other_slots, without_number}
 use Rattle.bcv_slots.specs.NumberLaws.{DifferWith, DifferWithout, FreeIsNone, OthersHaveNone}
 
 -- what no number is, none that stays is

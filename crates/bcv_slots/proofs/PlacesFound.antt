@@ -1,6 +1,6 @@
 -- Where the first slot of a number is found.
-use Rattle.std.proofs.Common.{◌≡◌, ◌==◌, ℕ, zero, suc, ◌+◌, ◌<◌, ◌≤◌, Bool, true, false, cond, ◌||◌, List, [], ◌∷◌, length, map, find, take, get_or, Option, Some, None, slice_get, refl, sym, ap, ◌∙◌, arith}
-use Rattle.std.specs.List.{list_any}
+use Rattle.std.proofs.Common.{◌≡◌, ◌==◌, ℕ, zero, suc, ◌+◌, ◌<◌, ◌≤◌, Bool, true, false, cond, ◌||◌, List, [], ◌∷◌, length, find, take, get_or, Some, None, slice_get, refl, sym, ap, ◌∙◌, subst, arith}
+use Rattle.std.specs.List.{list_any, remove}
 use Rattle.std.specs.Option.{option_map}
 use Rattle.std.proofs.lemmas.Bool.{eq-eqb, or_parts, or_from, ne_eqb}
 use Rattle.std.proofs.lemmas.List.{take_all}
@@ -31,6 +31,7 @@ module _ {T : Type 0} where
       let is : x ≡ s = same_Some x s at in
       let test : (x.number == n) ≡ true = eq-eqb x.number n (ap (λ (y : Slot T). y.number) is ∙ same) in
       record {
+        inside = omega arith;
         slot = s;
         at = at;
         found = ap (λ (b : Bool). option_map item_of (cond b (Some x) (find (passes n) xs))) test ∙ ap (λ (y : Slot T). Some y.item) is;
@@ -39,9 +40,11 @@ module _ {T : Type 0} where
   there n (x ∷ xs) (suc place) s none at same =
       let p = or_parts (x.number == n) (list_any (passes n) (take place xs)) none in
       let r = there n xs place s p.1 at same in
+      let inside : place < length xs = r.inside in
       record {
-        slot = s;
-        at = at;
+        inside = omega (arith, inside);
+        slot = r.slot;
+        at = r.at;
         found = ap (λ (b : Bool). option_map item_of (cond b (Some x) (find (passes n) xs))) p.0 ∙ r.found;
         left = ap (λ (b : Bool). cond b xs (x ∷ without_number n xs)) p.0 ∙ ap (λ (ys : List (Slot T)). x ∷ ys) r.left;
       }
@@ -69,3 +72,20 @@ module _ {T : Type 0} where
 
   pub found_nowhere : (n : ℕ) (slots : List (Slot T)) (place : ℕ) → list_any (passes n) (take place slots) ≡ false → length slots ≤ place → IsNowhere n slots
   found_nowhere n slots place none past = nowhere n slots (ap (list_any (passes n)) (sym (take_all place slots past)) ∙ none)
+
+  -- ---- the slot that is taken out
+
+  pub item_taken : (n : ℕ) (slots items : List (Slot T)) (place : ℕ) (s : Slot T) → slots ≡ items → IsPlaceOf n slots place → s ≡ get_or items place s → Some s.item ≡ item_at n items
+  item_taken n slots items place s same is read =
+      let at : IsPlaceOf n items place = subst (λ (l : List (Slot T)). IsPlaceOf n l place) same is in
+      let one : s ≡ at.slot = same_Some s at.slot (sym (slice_get-get_or items place s at.inside ∙ ap (λ (x : Slot T). Some x) (sym read)) ∙ at.at) in
+      ap (λ (x : Slot T). Some x.item) one ∙ sym at.found
+
+  pub others_left : (n : ℕ) (slots items : List (Slot T)) (place : ℕ) → slots ≡ items → IsPlaceOf n slots place → remove items place ≡ without_number n items
+  others_left n slots items place same is = let at : IsPlaceOf n items place = subst (λ (l : List (Slot T)). IsPlaceOf n l place) same is in sym at.left
+
+  pub none_found : (n : ℕ) (slots items : List (Slot T)) → slots ≡ items → IsNowhere n slots → None ≡ item_at n items
+  none_found n slots items same is = let at : IsNowhere n items = subst (λ (l : List (Slot T)). IsNowhere n l) same is in sym at.none
+
+  pub none_left : (n : ℕ) (slots items : List (Slot T)) → slots ≡ items → IsNowhere n slots → items ≡ without_number n items
+  none_left n slots items same is = let at : IsNowhere n items = subst (λ (l : List (Slot T)). IsNowhere n l) same is in sym at.left

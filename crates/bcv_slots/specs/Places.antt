@@ -1,5 +1,5 @@
 -- Where the first slot of a number stands.
-use Rattle.std.specs.Prelude.{◌≡◌, ℕ, List, Some, None, slice_get}
+use Rattle.std.specs.Prelude.{◌≡◌, ◌<◌, ℕ, List, Some, None, length, slice_get}
 use Rattle.std.specs.List.{remove}
 use Rattle.bcv_slots.specs.declared.Slot.{Slot}
 use Rattle.bcv_slots.specs.Numbered.{item_at, without_number}
@@ -7,6 +7,7 @@ use Rattle.bcv_slots.specs.Numbered.{item_at, without_number}
 module _ {T : Type 0} (n : ℕ) (slots : List (Slot T)) where
   -- the first slot of the number stands there
   pub record IsPlaceOf (place : ℕ) : Type 0 where
+    pub inside : place < length slots
     pub slot : Slot T
     pub at : slice_get slots place ≡ Some slot
     pub found : item_at n slots ≡ Some slot.item

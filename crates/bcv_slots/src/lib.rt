@@ -55,7 +55,9 @@ pub fn take<T>(slots: &mut Vec<Slot<T>>, number: u64) -> Option<T>
     ensures only { AreDifferent (numbers_of slots.old.items) → slots.new.items ≡ other_slots number slots.old.items }
     ensures room { IsSome result → vec_len slots.new < vec_capacity slots.new }
 {
-    let place = place_of(slots, number)?;
+    let Some(place) = place_of(slots, number) else {
+        return None;
+    };
     let Slot { number: _, item } = slots.remove(place);
     Some(item)
 }
