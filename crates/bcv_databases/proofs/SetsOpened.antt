@@ -14,7 +14,7 @@ use Rattle.bcv_databases.proofs.Slots.{at_other, at_same}
 -- the places before, those with a free one found or made, and the free one
 module _ (c : Catalog) (mid : List (Option Held)) (place : ℕ) (h : Held) (s : AreDatabases c) (same : (p : ℕ) → set_at mid p ≡ set_at c.sets p)
     (inside : place < length mid) (free : set_at mid place ≡ None) where
-  abbrev opened : List (Option Held)
+  abbrev pub opened : List (Option Held)
   opened = set mid place (Some h)
 
   was_free : set_at c.sets place ≡ None
