@@ -13,6 +13,7 @@ pub mod Replaced
 pub mod Resolved
 pub mod Reverted
 pub mod SetViews
+pub mod SetsOpened
 pub mod Slots
 pub mod TableRows
 pub mod Trimmed

@@ -1,11 +1,11 @@
 -- Changes of a set at its place.
-use Rattle.std.specs.Prelude.{ℕ, ◌+◌, Bool, true, false, List, [], ◌∷◌, Option, Some, None, slice_set}
+use Rattle.std.specs.Prelude.{◌≡◌, ◌≢◌, ℕ, ◌+◌, Bool, true, false, List, [], ◌∷◌, Option, Some, None, slice_set}
 use Rattle.std.specs.Option.{option_map}
 use Rattle.bcv_pages.specs.Held.{Held}
 use Rattle.bcv_base.specs.Keyed.{keyed, with_keyed, without_keyed}
 use Rattle.bcv_model.specs.declared.kept.Local.{Local}
 use Rattle.bcv_model.specs.Notes.{kept_name}
-use Rattle.bcv_databases.specs.Catalog.{set_at, use_name, writes_in}
+use Rattle.bcv_databases.specs.Catalog.{Catalog, set_at, use_name, writes_in}
 use Rattle.bcv_databases.specs.declared.set_use.SetUse.{SetUse}
 
 -- the sets with another one at a place
@@ -15,6 +15,18 @@ with_set h place sets = slice_set sets place h
 -- the sets with the one at a place changed
 abbrev pub changed : (Held → Held) → ℕ → List (Option Held) → List (Option Held)
 changed f place sets = with_set (option_map f (set_at sets place)) place sets
+
+-- ---- sets without commits
+
+-- a set without commits, for pages of a size
+abbrev pub empty_set : ℕ → Held
+empty_set page_size = record { page_size = page_size; forgotten = 0; kept = []; ready = None }
+
+-- such a set stands at a place that had none, and no other place has changed
+pub record OpensSet (old new : Catalog) (page_size place : ℕ) : Type 0 where
+  pub free : set_at old.sets place ≡ None
+  pub there : set_at new.sets place ≡ Some (empty_set page_size)
+  pub others : (p : ℕ) → p ≢ place → set_at new.sets p ≡ set_at old.sets p
 
 -- ---- loaded databases
 

@@ -1,4 +1,4 @@
-ghost use Rattle.std.specs.Prelude.{◌≡◌, ◌<◌, ◌≤◌, ◌^◌, ◌+◌, ℕ, true, false, [], Some, None, IfOk, IfSome, IsSome, OnOk, length, option_and_then, is_some};
+ghost use Rattle.std.specs.Prelude.{◌≡◌, ◌<◌, ◌≤◌, ◌^◌, ◌+◌, ℕ, true, false, [], Some, None, IfOk, IfSome, IsSome, OnErr, OnOk, length, option_and_then, is_some};
 ghost use Rattle.std.specs.Option.{option_map};
 ghost use Rattle.bcv_base.specs.declared.id.Id16.{Id16};
 ghost use Rattle.bcv_base.specs.Keyed.{keyed, with_keyed};
@@ -10,7 +10,7 @@ ghost use Rattle.bcv_model.specs.Notes.{after_note, kept_name, with_uploaded};
 ghost use Rattle.bcv_pages.specs.Held.{KeepsView};
 ghost use Rattle.bcv_databases.specs.Catalog.{commits_of, found_at, known_name, set_at, shown_view, use_name};
 ghost use Rattle.bcv_databases.specs.Changes.{Adds, HasMemory, base_of, known_left, left_known, Ends, IsFirstReady, IsLaterReady, IsReady, KeepsFrom, Polls, Resolves, Reverts, Trims, needed_from, use_of};
-ghost use Rattle.bcv_databases.specs.Slots.{uses_after};
+ghost use Rattle.bcv_databases.specs.Slots.{OpensSet, uses_after};
 ghost use Rattle.bcv_databases.specs.Sound.{AreDatabases, AreLoaded, CanUpload, IsSame, KeepsViews};
 ghost use Rattle.bcv_databases.specs.Table.{table_of};
 
@@ -247,6 +247,19 @@ impl Databases {
             Some(upto) => forget_in(&mut self.sets, set, upto),
             None => drop_in(&mut self.sets, set),
         }
+    }
+
+    /// Opens a set without commits at a free place, for a transaction over a database that has none. `trim` drops it once no
+    /// transaction uses it.
+    pub fn open_set(&mut self, alloc: Global, page_size: u32) -> Result<usize, AllocError>
+        ensures same { IsSame self.old self.new }
+        ensures uses { self.new.uses ≡ self.old.uses }
+        ensures set { IfOk result (OpensSet self.old self.new page_size) }
+        ensures none { OnErr result ((p : ℕ) → set_at self.new.sets p ≡ set_at self.old.sets p) }
+    {
+        let place = free_place(&mut self.sets)?;
+        self.sets[place] = Some(PageSet::new(alloc, page_size));
+        Ok(place)
     }
 
     // Takes the memory for one more commit of a database with so many commits.
