@@ -1,0 +1,4 @@
+mod CreateLaws
+mod KindPuts
+pub mod Owned
+mod PutLaws
