@@ -2,3 +2,4 @@ mod CreateLaws
 mod KindPuts
 pub mod Owned
 mod PutLaws
+mod WorkLaws

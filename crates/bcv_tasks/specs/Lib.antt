@@ -1,3 +1,3 @@
 pub mod State
 pub mod TaskPut
--- pub mod TaskWork
+pub mod TaskWork

@@ -13,7 +13,7 @@ mod laws;
 mod publish_task;
 mod put_answer;
 mod task_put;
-//mod task_work;
+mod task_work;
 
 pub use create_task::CreateTask;
 pub use laws::{owned_stays, puts_keep_names};
