@@ -1,0 +1,5 @@
+mod CreateLaws
+mod KindPuts
+pub mod Owned
+mod PutLaws
+mod WorkLaws
