@@ -1,0 +1,4 @@
+pub mod Lists
+pub mod TaskLists
+pub mod Different
+pub mod OtherParts

@@ -1,0 +1,3 @@
+pub mod TaskLists
+pub mod Different
+pub mod OtherParts

@@ -1,0 +1,10 @@
+//! Laws on a client's parts.
+//!
+//! A client's steps change one part of what it has in memory at a time. This crate says what each change is in the machine's
+//! words, and that the client still fits the log of its store afterwards. It stands on what a client is seen as and on the
+//! records of its tasks. Each function does nothing: its clauses are laws on plain data, for the proofs of a client to cite.
+#![tactic(auto)]
+
+mod tasks;
+
+pub use tasks::{numbers_stay_different, other_parts_fit, tasks_are_the_machines, tasks_come_and_go};
