@@ -2,3 +2,5 @@ pub mod Lists
 pub mod TaskLists
 pub mod Different
 pub mod OtherParts
+pub mod Appended
+pub mod OwnEntries

@@ -1,3 +1,4 @@
 pub mod TaskLists
 pub mod Different
 pub mod OtherParts
+pub mod OwnEntries

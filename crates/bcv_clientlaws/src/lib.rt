@@ -5,6 +5,8 @@
 //! records of its tasks. Each function does nothing: its clauses are laws on plain data, for the proofs of a client to cite.
 #![tactic(auto)]
 
+mod fits;
 mod tasks;
 
+pub use fits::own_entries_fit;
 pub use tasks::{numbers_stay_different, other_parts_fit, tasks_are_the_machines, tasks_come_and_go};
