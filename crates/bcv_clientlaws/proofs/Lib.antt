@@ -4,3 +4,4 @@ pub mod Different
 pub mod OtherParts
 pub mod Appended
 pub mod OwnEntries
+pub mod ManifestsRead

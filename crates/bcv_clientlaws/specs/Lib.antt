@@ -2,3 +2,4 @@ pub mod TaskLists
 pub mod Different
 pub mod OtherParts
 pub mod OwnEntries
+pub mod ManifestsRead

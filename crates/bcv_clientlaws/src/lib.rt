@@ -8,5 +8,5 @@
 mod fits;
 mod tasks;
 
-pub use fits::own_entries_fit;
+pub use fits::{manifests_fit, own_entries_fit};
 pub use tasks::{numbers_stay_different, other_parts_fit, tasks_are_the_machines, tasks_come_and_go};
