@@ -5,3 +5,4 @@ pub mod OtherParts
 pub mod Appended
 pub mod OwnEntries
 pub mod ManifestsRead
+pub mod TaskStarts

@@ -3,3 +3,4 @@ pub mod Different
 pub mod OtherParts
 pub mod OwnEntries
 pub mod ManifestsRead
+pub mod Starts

@@ -6,7 +6,9 @@
 #![tactic(auto)]
 
 mod fits;
+mod starts;
 mod tasks;
 
 pub use fits::{manifests_fit, own_entries_fit};
+pub use starts::{new_tasks_are_the_machines, new_tasks_fit, starts_are_as_asked};
 pub use tasks::{numbers_stay_different, other_parts_fit, tasks_are_the_machines, tasks_come_and_go};
