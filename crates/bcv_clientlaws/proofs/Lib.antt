@@ -6,3 +6,6 @@ pub mod Appended
 pub mod OwnEntries
 pub mod ManifestsRead
 pub mod TaskStarts
+pub mod PendingEnds
+pub mod ResolveSteps
+pub mod FaultsEnd

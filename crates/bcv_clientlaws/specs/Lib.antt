@@ -4,3 +4,5 @@ pub mod OtherParts
 pub mod OwnEntries
 pub mod ManifestsRead
 pub mod Starts
+pub mod Resolves
+pub mod FaultEnds
