@@ -80,7 +80,7 @@ read_fails_voided c log entries p after f free x q outcome.Lost r is not how =
 found_ends : (c : m.Container) (log : List Entry) (entries : List cache.Entry) (p after : Parts) (f free : Free) (x : PendingPub) (q : m.Publication) (end r : Reply)
     → (is : IsToBeVoided log entries p x q) → IsFound c q (m.last_version c) end
     → ((s : m.Side) (u : m.Up) (t : m.Side) → t ≡ with_client s (noted s u m.Voiding) → FaultEnds true s u end end t)
-    → ((s : m.Side) (u : m.Up) (t : m.Side) → ((y : Reply) × IsFound s.container q (m.last_version s.container) y × FaultEnds q.intended s u y end t) × (None {T = m.Publication} ≡ None) → GetsManifest s u q outcome.Ok end t None)
+    → ((s : m.Side) (u : m.Up) (t : m.Side) (rest : Option m.Publication) → ((y : Reply) × IsFound s.container q (m.last_version s.container) y × FaultEnds q.intended s u y end t) × (rest ≡ None) → GetsManifest s u q outcome.Ok end t rest)
     → EndsVoided p f x.id end r after free
     → GetsManifest (side_with c (history_of log) p f) (seen_up (history_of log) p) q outcome.Ok r (side_with c (history_of log) after free) None
 found_ends c log entries p after f free x q end r is found says gets (inl e) =
@@ -88,7 +88,7 @@ found_ends c log entries p after f free x q end r is found says gets (inl e) =
     let u : m.Up = seen_up (history_of log) p in
     let t : m.Side = side_with c (history_of log) after free in
     subst (λ (y : Reply). GetsManifest s u q outcome.Ok y t None) (sym e.0)
-    (gets s u t ((end, found, ends c log entries p f x q is end (says s u) end after free (inl (refl, e.1, e.2))), refl))
+    (gets s u t None ((end, found, ends c log entries p f x q is end (says s u) end after free (inl (refl, e.1, e.2))), refl))
 found_ends c log entries p after f free x q end r is found says gets (inr e) =
     let s : m.Side = side_with c (history_of log) p f in
     let u : m.Up = seen_up (history_of log) p in
@@ -98,29 +98,29 @@ found_ends c log entries p after f free x q end r is found says gets (inr e) =
 
 pub read_finds_none_voided : ReadFindsNoneVoided
 read_finds_none_voided c log entries p after f free x q r is found how =
-    found_ends c log entries p after f free x q reply.NoContainer r is found (λ s u t e. (refl, e)) (λ s u t g. g) how
+    found_ends c log entries p after f free x q reply.NoContainer r is found (λ s u t e. (refl, e)) (λ s u t rest g. g) how
 
 pub read_finds_fault_voided : ReadFindsFaultVoided
 read_finds_fault_voided c log entries p after f free x q fault.VersionsFull r is found how =
-    found_ends c log entries p after f free x q reply.VersionsFull r is found (λ s u t e. (refl, e)) (λ s u t g. g) how
+    found_ends c log entries p after f free x q reply.VersionsFull r is found (λ s u t e. (refl, e)) (λ s u t rest g. g) how
 read_finds_fault_voided c log entries p after f free x q fault.Exists r is found how =
-    found_ends c log entries p after f free x q reply.Exists r is found (λ s u t e. (refl, e)) (λ s u t g. g) how
+    found_ends c log entries p after f free x q reply.Exists r is found (λ s u t e. (refl, e)) (λ s u t rest g. g) how
 read_finds_fault_voided c log entries p after f free x q fault.PageTooLarge r is found how =
-    found_ends c log entries p after f free x q reply.PageTooLarge r is found (λ s u t e. (refl, e)) (λ s u t g. g) how
+    found_ends c log entries p after f free x q reply.PageTooLarge r is found (λ s u t e. (refl, e)) (λ s u t rest g. g) how
 read_finds_fault_voided c log entries p after f free x q fault.TooLarge r is found how =
-    found_ends c log entries p after f free x q reply.TooLarge r is found (λ s u t e. (refl, e)) (λ s u t g. g) how
+    found_ends c log entries p after f free x q reply.TooLarge r is found (λ s u t e. (refl, e)) (λ s u t rest g. g) how
 read_finds_fault_voided c log entries p after f free x q fault.TooManyDatabases r is found how =
-    found_ends c log entries p after f free x q reply.TooManyDatabases r is found (λ s u t e. (refl, e)) (λ s u t g. g) how
+    found_ends c log entries p after f free x q reply.TooManyDatabases r is found (λ s u t e. (refl, e)) (λ s u t rest g. g) how
 read_finds_fault_voided c log entries p after f free x q fault.NoDatabase r is found how =
-    found_ends c log entries p after f free x q reply.NoDatabase r is found (λ s u t e. (refl, e)) (λ s u t g. g) how
+    found_ends c log entries p after f free x q reply.NoDatabase r is found (λ s u t e. (refl, e)) (λ s u t rest g. g) how
 read_finds_fault_voided c log entries p after f free x q (fault.Conflict mine theirs) r is found how =
-    found_ends c log entries p after f free x q (reply.Conflict mine theirs) r is found (λ s u t e. (refl, e)) (λ s u t g. g) how
+    found_ends c log entries p after f free x q (reply.Conflict mine theirs) r is found (λ s u t e. (refl, e)) (λ s u t rest g. g) how
 read_finds_fault_voided c log entries p after f free x q fault.WritersFull r is found how =
-    found_ends c log entries p after f free x q reply.WritersFull r is found (λ s u t e. (refl, e)) (λ s u t g. g) how
+    found_ends c log entries p after f free x q reply.WritersFull r is found (λ s u t e. (refl, e)) (λ s u t rest g. g) how
 read_finds_fault_voided c log entries p after f free x q fault.DeleteListFull r is found how =
-    found_ends c log entries p after f free x q reply.DeleteListFull r is found (λ s u t e. (refl, e)) (λ s u t g. g) how
+    found_ends c log entries p after f free x q reply.DeleteListFull r is found (λ s u t e. (refl, e)) (λ s u t rest g. g) how
 read_finds_fault_voided c log entries p after f free x q fault.ManifestTooLong r is found how =
-    found_ends c log entries p after f free x q reply.ManifestTooLong r is found (λ s u t e. (refl, e)) (λ s u t g. g) how
+    found_ends c log entries p after f free x q reply.ManifestTooLong r is found (λ s u t e. (refl, e)) (λ s u t rest g. g) how
 
 -- ---- a request for a block
 
