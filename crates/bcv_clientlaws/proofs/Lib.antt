@@ -9,3 +9,4 @@ pub mod TaskStarts
 pub mod PendingEnds
 pub mod ResolveSteps
 pub mod FaultsEnd
+pub mod DatabaseForms

@@ -6,3 +6,4 @@ pub mod ManifestsRead
 pub mod Starts
 pub mod Resolves
 pub mod FaultEnds
+pub mod Forms
