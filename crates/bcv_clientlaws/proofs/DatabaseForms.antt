@@ -1,17 +1,14 @@
 -- The databases that a client knows stay in form.
-use Rattle.std.proofs.Common.{◌≡◌, ◌∙◌, ℕ, Bool, true, false, cond, List, [], ◌∷◌, ◌++◌, drop, filter, map, Option, Some, None, IfSome, refl, sym, ap, subst}
+use Rattle.std.proofs.Common.{◌≡◌, ◌∙◌, ℕ, Bool, true, false, cond, List, [], ◌∷◌, ◌++◌, drop, filter, map, Option, Some, None, IfSome, refl, sym, subst}
 use Rattle.std.specs.List.{AllByRecursion}
 use Rattle.std.specs.Str.{bytes_eq}
-use Rattle.bcv_base.specs.declared.id.Id16.{Id16}
-use Rattle.bcv_base.specs.declared.log.Entry.{Entry}
 use Rattle.bcv_base.specs.declared.manifest.DbEntry.{DbEntry}
 use Rattle.bcv_base.specs.declared.manifest.Manifest.{Manifest}
 use Rattle.bcv_base.specs.History.{Item, history_of, last_of}
 use Rattle.bcv_base.specs.Keyed.{comes_before, keyed, with_keyed, with_made, without_keyed}
 use Rattle.bcv_base.specs.ManifestRules.{MeetsEntryRules, MeetsRules, db_name}
-use Rattle.bcv_cache.specs.Entry as cache
 use Rattle.bcv_databases.specs.Catalog.{known_name}
-use Rattle.bcv_databases.specs.Changes.{known_left, left_known, published, upload_left}
+use Rattle.bcv_databases.specs.Changes.{known_left, published, upload_left}
 use Rattle.bcv_databases.specs.declared.known.Known.{Known}
 use Rattle.bcv_dbmap.specs.Sound.{Sound}
 use Rattle.bcv_dbmap.proofs.Keys.{all_found, all_with, all_without}
@@ -25,14 +22,13 @@ use Rattle.bcv_model.specs.declared.note.Note.TheVariants as note
 use Rattle.bcv_model.specs.NoteRules.{Folds, MayStand, MayUpload}
 use Rattle.bcv_model.specs.Notes.{after_note, kept_name, kept_published, nothing_kept, rebased, replaced_local, with_local_commit, with_published}
 use Rattle.bcv_clientstate.specs.BaseLaws.{FitsLocal}
-use Rattle.bcv_clientstate.specs.Fits.{Fits, FitsKnown}
+use Rattle.bcv_clientstate.specs.Fits.{FitsKnown}
 use Rattle.bcv_clientstate.specs.KnownLaws.{has_none, known_in}
 use Rattle.bcv_clientstate.specs.LocalSides.{known_again}
-use Rattle.bcv_clientstate.specs.Parts.{Parts}
-use Rattle.bcv_clientstate.specs.SeenContainer.{HasBase, block_in}
+use Rattle.bcv_clientstate.specs.SeenContainer.{block_in}
 use Rattle.bcv_clientstate.proofs.Bases.{base_block}
 use Rattle.bcv_clientstate.proofs.Growth.{all_kept, some_kept}
-use Rattle.bcv_clientlaws.specs.Forms.{AreInForm, BasesAreInForm, CommitsKeepForm, EndsKeepForm, FitsAreInForm, FoldsAreInForm, FormIsContainers, FormOf, FoundInForm, FoundKnownInForm, IsInForm, KnownInForm, LocalInForm, NoteInForm, NotesKeepForm, PendingInForm, ReadsKeepForm, ResolvesKeepForm, RevertsKeepForm, SomeLocals, UploadInForm}
+use Rattle.bcv_clientlaws.specs.Forms.{AreInForm, BasesAreInForm, CommitsKeepForm, EndsKeepForm, FitsAreInForm, FoldsAreInForm, FormIsContainers, FormOf, FoundInForm, FoundKnownInForm, KnownInForm, LocalInForm, NotesKeepForm, PendingInForm, ReadsKeepForm, ResolvesKeepForm, RevertsKeepForm, SomeLocals, UploadInForm}
 use Rattle.bcv_clientlaws.proofs.ManifestsRead.{rules_of}
 
 -- ---- one that is found

@@ -1,5 +1,5 @@
 -- The numbers of tasks and transactions stay different, and no more than one task publishes.
-use Rattle.std.proofs.Common.{◌≡◌, ◌∙◌, ◌==◌, ℕ, Bool, true, false, not, cond, ◌||◌, List, [], ◌∷◌, ◌++◌, map, filter, find, Option, Some, None, refl, sym, ap, subst}
+use Rattle.std.proofs.Common.{◌≡◌, ◌∙◌, ◌==◌, ℕ, Bool, true, false, not, cond, ◌||◌, List, [], ◌∷◌, ◌++◌, map, filter, find, Some, None, refl, sym, ap, subst}
 use Rattle.std.specs.List.{list_any}
 use Rattle.std.proofs.lemmas.Bool.{or_from, or_parts}
 use Rattle.std.proofs.lemmas.List.Folds.{list_any-append}
@@ -106,7 +106,7 @@ none_left : (n : ℕ) (ts : List Task) (t : Task) → AtMostOne ts → find (λ 
 none_left n [] t one is h = refl
 none_left n (x ∷ ts) t one is h =
     elim (x.number == n) as (λ (b : Bool). cond b (Some x) (find (λ (y : Task). y.number == n) ts) ≡ Some t
-        → list_any busy (cond (not b) (x ∷ filter (λ (y : Task). not (y.number == n)) ts) (filter (λ (y : Task). not (y.number == n)) ts)) ≡ false) [
+    → list_any busy (cond (not b) (x ∷ filter (λ (y : Task). not (y.number == n)) ts) (filter (λ (y : Task). not (y.number == n)) ts)) ≡ false) [
       | true ↦ λ e. none_kept (λ (y : Task). not (y.number == n)) ts (one.0 (ap busy (same_Some x t e) ∙ h))
       | false ↦ λ e.
           or_from (busy x) (list_any busy (filter (λ (y : Task). not (y.number == n)) ts))

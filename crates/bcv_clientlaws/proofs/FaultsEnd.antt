@@ -1,12 +1,9 @@
 -- What ends a publication whose intent is noted is the machine's.
-use Rattle.std.proofs.Common.{◌≡◌, ◌∙◌, ◌⊎◌, ◌+◌, ℕ, Bool, true, false, List, Option, Some, None, inl, inr, refl, sym, ap, subst}
-use Rattle.bcv_base.specs.declared.id.Id16.{Id16}
+use Rattle.std.proofs.Common.{◌≡◌, ◌∙◌, Bool, true, List, Option, None, inl, inr, refl, sym, ap, subst}
 use Rattle.bcv_base.specs.declared.log.Entry.{Entry}
-use Rattle.bcv_base.specs.declared.outcome.Outcome.{Outcome}
 use Rattle.bcv_base.specs.declared.outcome.Outcome.TheVariants as outcome
 use Rattle.bcv_base.specs.History.{Item, history_of}
 use Rattle.bcv_cache.specs.Entry as cache
-use Rattle.bcv_dbmap.specs.declared.fault.EditFault.{EditFault}
 use Rattle.bcv_dbmap.specs.declared.fault.EditFault.TheVariants as fault
 use Rattle.bcv_machine.specs.ManifestGet.{GetsManifest, IsFound}
 use Rattle.bcv_machine.specs.MiddleStep.{GoesOn, after_request}
@@ -19,8 +16,7 @@ use Rattle.bcv_model.specs.declared.note.Note.TheVariants as note
 use Rattle.bcv_model.specs.declared.reply.Reply.{Reply}
 use Rattle.bcv_model.specs.declared.reply.Reply.TheVariants as reply
 use Rattle.bcv_model.specs.Notes.{note_size}
-use Rattle.bcv_clientstate.specs.CheckLaws.{fault_reply}
-use Rattle.bcv_clientstate.specs.Journaled.{free_failed, free_noted}
+use Rattle.bcv_clientstate.specs.Journaled.{free_noted}
 use Rattle.bcv_clientstate.specs.LocalSides.{shut}
 use Rattle.bcv_clientstate.specs.NoteSides.{MayNote, while_up, with_note}
 use Rattle.bcv_clientstate.specs.Parts.{Parts}

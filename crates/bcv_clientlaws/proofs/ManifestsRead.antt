@@ -1,16 +1,14 @@
 -- A client that has read a manifest fits the log that has it.
-use Rattle.std.proofs.Common.{◌≡◌, ◌∙◌, ◌≤◌, ◌+◌, ◌==◌, ℕ, zero, suc, Bool, true, false, not, List, [], ◌∷◌, length, Option, Some, None, IfSome, inl, inr, refl, sym, ap, subst, arith}
+use Rattle.std.proofs.Common.{◌≡◌, ◌∙◌, ◌≤◌, ℕ, false, not, List, [], ◌∷◌, length, Option, Some, None, IfSome, inl, inr, refl, sym, ap, subst, arith}
 use Rattle.std.proofs.lemmas.Bool.{eq-eqb}
 use Rattle.std.proofs.lemmas.Option.{same_Some}
-use Rattle.bcv_base.specs.declared.log.Entry.{Entry}
 use Rattle.bcv_base.specs.declared.manifest.Manifest.{Manifest}
-use Rattle.bcv_base.specs.declared.seen.Latest.{Latest}
 use Rattle.bcv_base.specs.declared.seen.Seen.{Seen}
 use Rattle.bcv_base.specs.History.{Item, BlockPut, Published, Unreadable, BlockDeleted, ManifestDeleted, Always, count_of, history_of, last_of}
 use Rattle.bcv_base.specs.HistoryLaws.{last_is, no_version, version-count}
 use Rattle.bcv_base.specs.ManifestRules.{MeetsRules}
 use Rattle.bcv_base.specs.Version.{Version}
-use Rattle.bcv_base.specs.Versions.{Reads, versions_of}
+use Rattle.bcv_base.specs.Versions.{Reads}
 use Rattle.bcv_dbmap.specs.Outlived.{IsPublished}
 use Rattle.bcv_dbmap.specs.Sound.{Sound}
 use Rattle.bcv_dbmap.proofs.KeptLaws.{kept_published}
@@ -18,11 +16,9 @@ use Rattle.bcv_dbmap.proofs.ManifestLaws.{published_is_up_to}
 use Rattle.bcv_poller.specs.ManifestPoll.{IsSeenIn}
 use Rattle.bcv_publish.specs.ManifestRead.{is_other}
 use Rattle.bcv_clientstate.specs.Fits.{FitsSeen}
-use Rattle.bcv_clientstate.specs.KnownLaws.{known_of}
-use Rattle.bcv_clientstate.specs.Parts.{Parts}
 use Rattle.bcv_clientstate.proofs.Bases.{last_there}
 use Rattle.bcv_clientstate.proofs.KnownLaws.{known_fits}
-use Rattle.bcv_clientlaws.specs.ManifestsRead.{ReadFits, ReadIsSeen, SeenIsSeenIn, seen_of}
+use Rattle.bcv_clientlaws.specs.ManifestsRead.{ReadFits, ReadIsSeen, SeenIsSeenIn}
 
 -- ---- published manifests
 

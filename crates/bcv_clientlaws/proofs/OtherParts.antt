@@ -1,5 +1,5 @@
 -- A client of which one part was replaced still fits.
-use Rattle.std.proofs.Common.{◌≡◌, ◌∙◌, ◌==◌, ◌||◌, ℕ, zero, suc, Bool, true, false, not, cond, List, [], ◌∷◌, ◌++◌, filter, find, Option, Some, None, IfSome, refl, sym, ap, subst}
+use Rattle.std.proofs.Common.{◌≡◌, ◌∙◌, ◌==◌, ℕ, suc, Bool, true, false, not, cond, List, [], ◌∷◌, ◌++◌, filter, find, Option, Some, None, refl, sym, subst}
 use Rattle.std.specs.List.{AllByRecursion, flat_map}
 use Rattle.std.proofs.lemmas.List.Folds.{list_any-append}
 use Rattle.std.proofs.lemmas.Option.{same_Some}
@@ -15,17 +15,17 @@ use Rattle.bcv_dbcopy.specs.State as copy
 use Rattle.bcv_dbcopy.specs.TaskWork as copying
 use Rattle.bcv_dbmap.specs.declared.plan.EditPlan.{EditPlan}
 use Rattle.bcv_dbmap.specs.declared.plan.EditPlan.TheVariants as edit
-use Rattle.bcv_dbmap.specs.Growth.{AreLawful, Creates, Edits, IsLawful, IsNewBlock, IsPublication, Publishes, PutsNew}
+use Rattle.bcv_dbmap.specs.Growth.{AreLawful, IsLawful, IsNewBlock, Publishes}
 use Rattle.bcv_dbmap.specs.OwnBlock.{IsOwnBlock}
 use Rattle.bcv_dbmap.proofs.Bools.{or_left, or_right}
 use Rattle.bcv_model.specs.declared.kept.Kept.{Kept}
 use Rattle.bcv_publish.specs.State as publish
 use Rattle.bcv_upload.specs.UploadWork as uploading
-use Rattle.bcv_clientstate.specs.Fits.{Fits, FitsJob, FitsPublish, FitsTask}
+use Rattle.bcv_clientstate.specs.Fits.{FitsJob, FitsPublish, FitsTask}
 use Rattle.bcv_clientstate.specs.Parts.{Job, Fetching, Polling, Creating, Copying, Uploading, Cleaning, Resolving, Task, Parts, mine_of, names_of_job, names_of_pending}
 use Rattle.bcv_clientstate.specs.Stages.{IsStagedTask}
 use Rattle.bcv_clientstate.proofs.Growth.{grows}
-use Rattle.bcv_clientlaws.specs.OtherParts.{EntriesFit, FitsWithoutTask, FoundTaskFits, Includes, IsTaskOf, KeepsTaken, KeptFits, LatestFits, NamesSuffice, OthersLeaveFits, ShutFits, TaskFitsLast, TasksFit, TxnsFit}
+use Rattle.bcv_clientlaws.specs.OtherParts.{EntriesFit, FitsWithoutTask, FoundTaskFits, Includes, KeepsTaken, KeptFits, LatestFits, NamesSuffice, OthersLeaveFits, ShutFits, TaskFitsLast, TasksFit, TxnsFit}
 use Rattle.bcv_clientlaws.specs.TaskLists.{with_tasks}
 
 -- ---- names
@@ -115,16 +115,24 @@ names_suffice mine more writer k log (Fetching access txn page) fits w all = tt
 names_suffice mine more writer k log Polling fits w all = tt
 names_suffice mine more writer k log (Creating block retention id) fits w all = (fits.0, fits.1, the_first more id [] all, w, fits.4)
 names_suffice mine more writer k log (Copying s) fits w all =
-    let ids : List Id16 = copy.put_ids s.edit in
-    (fits.0, publish_is mine more writer log w s.publish (the_first more s.publish.id ids all) fits.1,
-    copy_has mine more writer log w (history_of log) s.pages s.edit s.block (behind_one more s.publish.id ids all) fits.2)
-names_suffice mine more writer k log (Uploading s view) fits w all =
-    (fits.0, publish_is mine more writer log w s.publish (the_first more s.publish.id s.ids all) fits.1,
-    record {
-      listed = fits.2.listed;
-      blocks = uploaded_are mine more writer log w (history_of log) s.base view s.ids s.touched (behind_one more s.publish.id s.ids all) fits.2.blocks;
-      fetched = fits.2.fetched;
-    }, fits.3, fits.4, fits.5, fits.6)
+    let ids : List Id16 = copy.put_ids s.edit in (
+      fits.0,
+      publish_is mine more writer log w s.publish (the_first more s.publish.id ids all) fits.1,
+      copy_has mine more writer log w (history_of log) s.pages s.edit s.block (behind_one more s.publish.id ids all) fits.2,
+    )
+names_suffice mine more writer k log (Uploading s view) fits w all = (
+  fits.0,
+  publish_is mine more writer log w s.publish (the_first more s.publish.id s.ids all) fits.1,
+  record {
+    listed = fits.2.listed;
+    blocks = uploaded_are mine more writer log w (history_of log) s.base view s.ids s.touched (behind_one more s.publish.id s.ids all) fits.2.blocks;
+    fetched = fits.2.fetched;
+  },
+  fits.3,
+  fits.4,
+  fits.5,
+  fits.6,
+)
 names_suffice mine more writer k log (Cleaning s) fits w all = (fits.0, publish_is mine more writer log w s.publish (the_first more s.publish.id [] all) fits.1, fits.2)
 names_suffice mine more writer k log Resolving fits w all = tt
 

@@ -1,5 +1,5 @@
 -- A client fits the log with what it appended itself.
-use Rattle.std.proofs.Common.{◌≡◌, ◌∙◌, ◌||◌, ◌+◌, ℕ, Bool, true, false, List, [], ◌∷◌, ◌++◌, Option, Some, None, Ok, IfSome, inl, inr, refl, sym, ap, subst}
+use Rattle.std.proofs.Common.{◌≡◌, ◌∙◌, ◌+◌, ℕ, Bool, true, false, List, [], ◌∷◌, ◌++◌, Option, Some, None, Ok, IfSome, inl, inr, refl, sym, ap, subst}
 use Rattle.std.specs.List.{AllByRecursion, list_all, list_any}
 use Rattle.std.proofs.lemmas.Bool.{or_parts}
 use Rattle.bcv_base.specs.declared.id.Id16.{Id16}
@@ -11,10 +11,9 @@ use Rattle.bcv_base.specs.declared.object.ObjName.TheVariants as object
 use Rattle.bcv_base.specs.declared.outcome.Outcome.{Outcome}
 use Rattle.bcv_base.specs.declared.seen.Latest.{Latest}
 use Rattle.bcv_base.specs.declared.seen.Seen.{Seen}
-use Rattle.bcv_base.specs.History.{Item, BlockPut, BlockDeleted, Published, as_read, item_of, history_after, history_of}
+use Rattle.bcv_base.specs.History.{Item, BlockPut, BlockDeleted, Published, as_read, history_after, history_of}
 use Rattle.bcv_base.specs.HistoryLaws.{history_after-append, history_of-more}
 use Rattle.bcv_base.specs.Ids.{IsId, has_id}
-use Rattle.bcv_base.specs.Image.{Writes}
 use Rattle.bcv_base.specs.Keyed.{keyed}
 use Rattle.bcv_base.specs.ManifestGrammar.{manifest_of}
 use Rattle.bcv_base.specs.ManifestRules.{db_name}
@@ -32,11 +31,9 @@ use Rattle.bcv_dbmap.specs.declared.plan.EditPlan.TheVariants as edit
 use Rattle.bcv_dbmap.specs.Applied.{applied, dbs_after, first_manifest}
 use Rattle.bcv_dbmap.specs.Kept.{IsKept}
 use Rattle.bcv_dbmap.specs.Past.{has_version, last_own}
-use Rattle.bcv_dbmap.proofs.KeptLaws.{kept_longer}
 use Rattle.bcv_dbmap.proofs.Keys.{keyed_at}
 use Rattle.bcv_dbmap.proofs.ManifestLaws.{applied_is_last_own, first_is_last_own}
 use Rattle.bcv_model.specs.declared.kept.Kept.{Kept}
-use Rattle.bcv_model.specs.declared.kept.Local.{Local}
 use Rattle.bcv_model.specs.declared.kept.PendingPub.{PendingPub}
 use Rattle.bcv_model.specs.declared.kept.Uploading as concrete
 use Rattle.bcv_publish.specs.declared.work.BlockEnd.{BlockEnd}
@@ -45,22 +42,20 @@ use Rattle.bcv_publish.specs.declared.work.PutEnd.TheVariants as put
 use Rattle.bcv_publish.specs.declared.work.Work.TheVariants as work
 use Rattle.bcv_publish.specs.BlockPut.{SoundBlockEnds, block_work}
 use Rattle.bcv_publish.specs.ManifestPut.{refused_once}
-use Rattle.bcv_publish.specs.ManifestGet.{SoundGetEnds}
 use Rattle.bcv_publish.specs.State as publish
 use Rattle.bcv_upload.specs.BlockText.{IsViewOf, per_block}
 use Rattle.bcv_upload.specs.State as upload
 use Rattle.bcv_upload.specs.UploadPut as putting
 use Rattle.bcv_upload.specs.UploadWork as uploading
-use Rattle.bcv_databases.specs.declared.known.Known.{Known}
 use Rattle.bcv_clientstate.specs.BaseLaws.{FitsLocal}
-use Rattle.bcv_clientstate.specs.Fits.{Fits, FitsEntry, FitsJob, FitsKnown, FitsPending, FitsPublish, FitsTask, FitsTxn, IsMade, TakesFrom}
+use Rattle.bcv_clientstate.specs.Fits.{Fits, FitsEntry, FitsJob, FitsKnown, FitsPending, FitsPublish, FitsTask, FitsTxn, TakesFrom}
 use Rattle.bcv_clientstate.specs.PartRefusals.{is_publishing, runs_publication}
-use Rattle.bcv_clientstate.specs.Parts.{OpenTxn, Job, Fetching, Polling, Creating, Copying, Uploading, Cleaning, Resolving, Task, Parts, mine_of}
+use Rattle.bcv_clientstate.specs.Parts.{Job, Fetching, Polling, Creating, Copying, Uploading, Cleaning, Resolving, Task, Parts, mine_of}
 use Rattle.bcv_clientstate.specs.SeenContainer.{HasBase}
 use Rattle.bcv_clientstate.proofs.Bases.{stays}
 use Rattle.bcv_clientstate.proofs.Growth.{all_kept, some_kept}
 use Rattle.bcv_clientlaws.proofs.Appended.{entry_later, known_later, latest_later, local_later, seen_later, txn_later}
-use Rattle.bcv_clientlaws.specs.OwnEntries.{AreOfBlocks, BlocksLeaveFits, CleanupDeletes, CleanupFits, CleanupIsRefused, CleanupReadsOn, CopyFits, CopyIsRefused, CopyWorks, CreateFits, GoesOnAs, IsIntended, IsOfBlock, IsOwnWork, IsSameUpload, PublicationFits, UploadFits, UploadIsRefused, UploadWorks}
+use Rattle.bcv_clientlaws.specs.OwnEntries.{AreOfBlocks, BlocksLeaveFits, CleanupDeletes, CleanupFits, CleanupIsRefused, CleanupReadsOn, CopyFits, CopyIsRefused, CopyWorks, CreateFits, GoesOnAs, IsIntended, IsOwnWork, IsSameUpload, PublicationFits, UploadFits, UploadIsRefused, UploadWorks}
 
 -- ---- whatever is appended
 
@@ -193,14 +188,14 @@ publish_goes_on : (mine : List Id16) (writer : Id16) (log own : List Entry) (p q
     → FitsPublish mine writer (log ++ own) q
 publish_goes_on mine writer log own p q are fits on =
     let base : (i : Id16) → p.id ≡ i → FitsPublish mine writer (log ++ own) (record q { id = i; writer = p.writer }) =
-        λ i e. record {
-          same_writer = fits.same_writer;
-          writer_is_mine = fits.writer_is_mine;
-          is_id = subst IsId e fits.is_id;
-          is_mine = subst (λ (j : Id16). has_id j mine ≡ true) e fits.is_mine;
-          fresh = (same_versions log own are).version i ∙ subst (λ (j : Id16). has_version (history_of log) j ≡ false) e fits.fresh;
-          read = on.read;
-        } in
+    λ i e. record {
+      same_writer = fits.same_writer;
+      writer_is_mine = fits.writer_is_mine;
+      is_id = subst IsId e fits.is_id;
+      is_mine = subst (λ (j : Id16). has_id j mine ≡ true) e fits.is_mine;
+      fresh = (same_versions log own are).version i ∙ subst (λ (j : Id16). has_version (history_of log) j ≡ false) e fits.fresh;
+      read = on.read;
+    } in
     subst (λ (w : Id16). FitsPublish mine writer (log ++ own) (record q { writer = w })) (sym on.writer) (base q.id (sym on.id))
 
 pub copy_fits : CopyFits

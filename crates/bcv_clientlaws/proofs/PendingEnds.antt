@@ -1,22 +1,21 @@
 -- The end of a pending publication, while no task publishes: its notes, and the tasks as they are seen.
-use Rattle.std.proofs.Common.{◌≡◌, ◌∙◌, ◌+◌, ℕ, Bool, true, false, List, [], ◌∷◌, map, Option, Some, None, refl, sym, ap, subst}
+use Rattle.std.proofs.Common.{◌≡◌, ◌∙◌, ℕ, true, false, List, [], ◌∷◌, map, Option, Some, refl, sym, ap, subst}
 use Rattle.std.specs.Prelude.{IsSome}
 use Rattle.std.specs.List.{list_any}
 use Rattle.std.proofs.lemmas.Bool.{or_parts}
 use Rattle.bcv_base.specs.declared.id.Id16.{Id16}
 use Rattle.bcv_base.specs.declared.log.Entry.{Entry}
-use Rattle.bcv_base.specs.History.{Item, history_of}
+use Rattle.bcv_base.specs.History.{history_of}
 use Rattle.bcv_base.specs.Ids.{IsId}
 use Rattle.bcv_cache.specs.Entry as cache
 use Rattle.bcv_dbmap.specs.Sound.{IsSoundLog}
 use Rattle.bcv_machine.specs.State as m
 use Rattle.bcv_model.specs.declared.kept.PendingPub.{PendingPub}
-use Rattle.bcv_model.specs.declared.note.Note as bytes
 use Rattle.bcv_model.specs.declared.note.Note.TheVariants as note
 use Rattle.bcv_model.specs.NoteRules.{IsPendingAs, IsVersionNumber, MayEnd}
 use Rattle.bcv_clientstate.specs.Fits.{Fits}
 use Rattle.bcv_clientstate.specs.NoteSides.{MayNote}
-use Rattle.bcv_clientstate.specs.PartRefusals.{is_publishing, runs_publication}
+use Rattle.bcv_clientstate.specs.PartRefusals.{is_publishing}
 use Rattle.bcv_clientstate.specs.Parts.{Job, Fetching, Polling, Creating, Copying, Uploading, Cleaning, Resolving, Task, Parts}
 use Rattle.bcv_clientstate.specs.SeenClient.{seen_job, seen_task}
 

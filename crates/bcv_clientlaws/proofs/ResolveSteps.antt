@@ -1,5 +1,5 @@
 -- The step of a resolve is the machine's.
-use Rattle.std.proofs.Common.{◌≡◌, ◌∙◌, ◌+◌, ◌<◌, ◌≤◌, ◌^◌, ℕ, Bool, true, false, cond, List, [], ◌∷◌, map, Option, Some, None, is_some, refl, sym, ap, subst, arith}
+use Rattle.std.proofs.Common.{◌≡◌, ◌∙◌, ◌<◌, ◌≤◌, ◌^◌, ℕ, Bool, true, false, cond, List, map, Option, Some, None, is_some, refl, sym, ap, subst}
 use Rattle.std.specs.Prelude.{IfSome}
 use Rattle.std.specs.Option.{option_map}
 use Rattle.bcv_base.specs.declared.id.Id16.{Id16}
@@ -13,7 +13,7 @@ use Rattle.bcv_base.specs.ManifestRules.{MeetsRules}
 use Rattle.bcv_base.specs.Versions.{versions_of}
 use Rattle.bcv_cache.specs.Entry as cache
 use Rattle.bcv_databases.specs.Catalog.{known_name}
-use Rattle.bcv_databases.specs.Changes.{known_left, left_known, published, upload_left}
+use Rattle.bcv_databases.specs.Changes.{known_left, published, upload_left}
 use Rattle.bcv_databases.specs.declared.known.Known.{Known}
 use Rattle.bcv_dbmap.specs.ManifestLaws.{IsOwnOf, publication}
 use Rattle.bcv_dbmap.specs.Past.{last_own}
@@ -26,7 +26,6 @@ use Rattle.bcv_machine.specs.Resolve.{Resolves, ResolvesAs, ResolvesPending, num
 use Rattle.bcv_machine.specs.State as m
 use Rattle.bcv_machine.specs.State.{with_client}
 use Rattle.bcv_model.specs.declared.kept.Kept.{Kept}
-use Rattle.bcv_model.specs.declared.kept.Local.{Local}
 use Rattle.bcv_model.specs.declared.kept.PendingPub.{PendingPub}
 use Rattle.bcv_model.specs.declared.kept.Uploading.{Uploading}
 use Rattle.bcv_model.specs.declared.note.Note as bytes
@@ -38,11 +37,10 @@ use Rattle.bcv_model.specs.Notes.{after_note, kept_name, note_size}
 use Rattle.bcv_publish.specs.declared.resolved.Resolved.TheVariants as resolved
 use Rattle.bcv_clientstate.specs.Fits.{FitsPending}
 use Rattle.bcv_clientstate.specs.Journaled.{free_failed, free_noted}
-use Rattle.bcv_clientstate.specs.KeptLaws.{IsKeptAfter}
 use Rattle.bcv_clientstate.specs.LocalSides.{shut}
 use Rattle.bcv_clientstate.specs.NoteSides.{MayNote, while_up, with_note}
 use Rattle.bcv_clientstate.specs.Parts.{Parts}
-use Rattle.bcv_clientstate.specs.SeenClient.{Free, seen_client, seen_known, seen_task, seen_up, side_of}
+use Rattle.bcv_clientstate.specs.SeenClient.{Free, seen_client, seen_known, seen_up, side_of}
 use Rattle.bcv_clientstate.specs.SeenKept.{seen_kept, seen_local, seen_pending, seen_upload}
 use Rattle.bcv_clientstate.proofs.KeyedMaps.{keyed_map, with_map}
 use Rattle.bcv_clientstate.proofs.NoteLaws.{are_steps}

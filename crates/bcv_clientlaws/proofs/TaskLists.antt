@@ -1,11 +1,10 @@
 -- A client's tasks by their numbers are the machine's.
-use Rattle.std.proofs.Common.{◌≡◌, ◌∙◌, ℕ, ◌==◌, not, List, [], ◌∷◌, Option, Some, refl, sym, ap}
-use Rattle.bcv_base.specs.History.{Item}
+use Rattle.std.proofs.Common.{◌∙◌, ◌==◌, not, List, [], ◌∷◌, refl, sym, ap}
 use Rattle.bcv_machine.specs.State as m
 use Rattle.bcv_machine.specs.State.{with_up}
 use Rattle.bcv_clientstate.specs.Parts.{Fetching, Polling, Creating, Copying, Uploading, Cleaning, Resolving, OpenTxn, Task}
 use Rattle.bcv_clientstate.specs.SeenClient.{seen_task, seen_txn, seen_up, side_of}
-use Rattle.bcv_clientlaws.specs.TaskLists.{FreeIsFree, JobIsBusy, TaskComes, TaskGoes, TaskGoesOn, TaskIsFound, TaskNumbersAre, TxnNumbersAre, task_number, with_task}
+use Rattle.bcv_clientlaws.specs.TaskLists.{FreeIsFree, JobIsBusy, TaskComes, TaskGoes, TaskGoesOn, TaskIsFound, TaskNumbersAre, TxnNumbersAre, task_number}
 use Rattle.bcv_clientlaws.proofs.Lists.{filter_map, find_map, map_append, map_map}
 
 pub task_goes : TaskGoes

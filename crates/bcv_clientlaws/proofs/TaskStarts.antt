@@ -1,5 +1,5 @@
 -- An ask that starts a task is the machine's, and the client with the new task fits the log.
-use Rattle.std.proofs.Common.{◌≡◌, ◌∙◌, ◌+◌, ◌*◌, ◌/◌, ◌||◌, ℕ, Bool, true, false, not, cond, List, [], ◌∷◌, ◌++◌, length, map, Option, Some, None, is_some, unwrap_or, inl, inr, refl, sym, ap, subst, arith}
+use Rattle.std.proofs.Common.{◌≡◌, ◌∙◌, ◌/◌, ◌||◌, ℕ, Bool, true, false, not, List, [], ◌∷◌, ◌++◌, length, map, Option, Some, None, is_some, unwrap_or, refl, sym, ap, subst, arith}
 use Rattle.std.specs.Prelude.{nat_le}
 use Rattle.std.specs.List.{flat_map, list_any}
 use Rattle.std.specs.Option.{option_map}
@@ -34,7 +34,7 @@ use Rattle.bcv_publish.specs.State as publish
 use Rattle.bcv_slots.specs.Numbered.{least_free}
 use Rattle.bcv_upload.specs.BlockText.{IsViewOf}
 use Rattle.bcv_upload.specs.State as upload
-use Rattle.bcv_clientstate.specs.Fits.{Fits, FitsJob, FitsPublish}
+use Rattle.bcv_clientstate.specs.Fits.{FitsJob, FitsPublish}
 use Rattle.bcv_clientstate.specs.PartRefusals.{is_publishing, runs_publication}
 use Rattle.bcv_clientstate.specs.Parts.{Job, Fetching, Polling, Creating, Copying, Uploading, Cleaning, Resolving, Task, Parts, names_of_job}
 use Rattle.bcv_clientstate.specs.SeenClient.{Free, seen_job, seen_task, seen_up, side_of}
@@ -47,7 +47,7 @@ use Rattle.bcv_clientstate.proofs.GoneLaws.{found_among}
 use Rattle.bcv_clientstate.proofs.PartRefusals.{map_len}
 use Rattle.bcv_clientstate.proofs.Stages.{new_is_staged}
 use Rattle.bcv_clientstate.proofs.StartRefusals.{poll_is_refused, resolve_is_refused, start_is_refused}
-use Rattle.bcv_clientlaws.specs.Starts.{CleanupIsNew, CopyHasLeft, CopyIsNew, CreateIsNew, FetchStarts, HasLeft, NewCleanupFits, NewCopyFits, NewCreateFits, NewUploadFits, PollStarts, QuietTaskFits, RefusesFetch, RefusesPoll, RefusesResolve, RefusesStart, ResolveStarts, StartsAsAsked, StartsWithoutPending, UploadHasLeft, UploadIsNew, with_job}
+use Rattle.bcv_clientlaws.specs.Starts.{CleanupIsNew, CopyHasLeft, CopyIsNew, CreateIsNew, FetchStarts, NewCleanupFits, NewCopyFits, NewCreateFits, NewUploadFits, PollStarts, QuietTaskFits, RefusesFetch, RefusesPoll, RefusesResolve, RefusesStart, ResolveStarts, StartsAsAsked, StartsWithoutPending, UploadHasLeft, UploadIsNew, with_job}
 use Rattle.bcv_clientlaws.specs.TaskLists.{task_numbers}
 use Rattle.bcv_clientlaws.proofs.OtherParts.{task_fits_last}
 use Rattle.bcv_clientlaws.proofs.TaskLists.{free_is_free, task_comes}
@@ -139,7 +139,7 @@ starts_as moment past p f n left j k free is = (
   free_is_free past p ∙ free,
   refl,
   ap (λ (u : m.Up). with_up (side_of moment past p f) u) (task_comes past (record { number = n; job = j }) p)
-  ∙ ap (λ (x : m.Job). with_up (side_of moment past p f) (m.with_task (seen_up past p) n x)) is,
+      ∙ ap (λ (x : m.Job). with_up (side_of moment past p f) (m.with_task (seen_up past p) n x)) is,
 )
 
 pub starts_as_asked : StartsAsAsked
@@ -148,9 +148,11 @@ starts_as_asked moment past p f kind n id j free least is_id fresh is =
     let u : m.Up = seen_up past p in
     let r : Reply = reply.Task n (left_at_start (container_of moment past) kind) in
     let t : m.Side = side_of moment past (with_job n j p) f in
-    subst (λ (o : Option Reply). UnlessRefused o (with_up s u) r t (Publishes s u kind id r t)) (sym (start_is_refused past p kind ∙ free))
-    (is_id, unused moment past p f id (none_pending p kind free) (none_runs p kind free) fresh,
-    starts_as moment past p f n (left_at_start (container_of moment past) kind) j (m.Publishing (started (container_of moment past) kind id)) least is)
+    subst (λ (o : Option Reply). UnlessRefused o (with_up s u) r t (Publishes s u kind id r t)) (sym (start_is_refused past p kind ∙ free)) (
+      is_id,
+      unused moment past p f id (none_pending p kind free) (none_runs p kind free) fresh,
+      starts_as moment past p f n (left_at_start (container_of moment past) kind) j (m.Publishing (started (container_of moment past) kind id)) least is,
+    )
 
 pub refuses_start : RefusesStart
 refuses_start moment past p f kind id r why =
@@ -307,7 +309,10 @@ new_upload_fits log p entries n base view size touched id fits runs is fresh of_
         blocks = tt;
         fetched = tt;
       },
-      of_view, commits, has, takes,
+      of_view,
+      commits,
+      has,
+      takes,
     ) (new_is_staged base size touched p.id id).0
 
 pub new_cleanup_fits : NewCleanupFits

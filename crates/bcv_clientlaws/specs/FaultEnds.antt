@@ -1,5 +1,5 @@
 -- What ends a publication whose intent is noted, before its put: void is noted first, and where it cannot be, that is answered.
-use Rattle.std.specs.Prelude.{◌≡◌, ◌⊎◌, ℕ, true, false, List, Some, None}
+use Rattle.std.specs.Prelude.{◌≡◌, ◌⊎◌, true, false, List, Some, None}
 use Rattle.bcv_base.specs.declared.id.Id16.{Id16}
 use Rattle.bcv_base.specs.declared.log.Entry.{Entry}
 use Rattle.bcv_base.specs.declared.outcome.Outcome.{Outcome}

@@ -1,23 +1,19 @@
 -- A client of which one part was replaced, or to whose log others have appended, still fits.
-use Rattle.std.specs.Prelude.{◌≡◌, ℕ, true, List, ◌++◌, take, Option, Some, None, IfSome}
+use Rattle.std.specs.Prelude.{◌≡◌, ℕ, true, List, ◌++◌, Option, Some, IfSome}
 use Rattle.std.specs.List.{AllByRecursion}
 use Rattle.bcv_base.specs.declared.id.Id16.{Id16}
 use Rattle.bcv_base.specs.declared.log.Entry.{Entry}
 use Rattle.bcv_base.specs.declared.seen.Latest.{Latest}
 use Rattle.bcv_base.specs.declared.seen.Seen.{Seen}
-use Rattle.bcv_base.specs.History.{Item, history_of}
+use Rattle.bcv_base.specs.History.{history_of}
 use Rattle.bcv_base.specs.Ids.{has_id}
 use Rattle.bcv_base.specs.Image.{Writes}
-use Rattle.bcv_base.specs.Keyed.{keyed}
-use Rattle.bcv_base.specs.ManifestRules.{Ascends}
 use Rattle.bcv_cache.specs.Entry as cache
-use Rattle.bcv_databases.specs.Catalog.{known_name}
 use Rattle.bcv_databases.specs.declared.known.Known.{Known}
 use Rattle.bcv_dbmap.specs.Growth.{AreLawful}
 use Rattle.bcv_dbmap.specs.Kept.{IsKept}
 use Rattle.bcv_dbmap.specs.Sound.{IsSoundLog}
 use Rattle.bcv_model.specs.declared.kept.Kept.{Kept}
-use Rattle.bcv_model.specs.Notes.{kept_name}
 use Rattle.bcv_clientstate.specs.BaseLaws.{FitsLocal}
 use Rattle.bcv_clientstate.specs.Fits.{Fits, FitsEntry, FitsJob, FitsPending, FitsSeen, FitsTask, FitsTxn, TakesFrom}
 use Rattle.bcv_clientstate.specs.KeptLaws.{IsOrdered}

@@ -15,7 +15,6 @@ use Rattle.bcv_dbmap.specs.Sound.{IsSoundLog}
 use Rattle.bcv_machine.specs.Resolve.{Resolves}
 use Rattle.bcv_machine.specs.State as m
 use Rattle.bcv_model.specs.declared.kept.PendingPub.{PendingPub}
-use Rattle.bcv_model.specs.declared.note.Note as bytes
 use Rattle.bcv_model.specs.declared.note.Note.TheVariants as note
 use Rattle.bcv_model.specs.declared.reply.Reply.TheVariants as reply
 use Rattle.bcv_model.specs.Notes.{after_note, note_size}

@@ -1,5 +1,5 @@
 -- An ask that starts a task, in the machine's words; the new task as the machine's; and that the client with it fits the log.
-use Rattle.std.specs.Prelude.{◌≡◌, ℕ, true, false, List, [], length, Some, None}
+use Rattle.std.specs.Prelude.{◌≡◌, ℕ, true, false, List, [], Some, None}
 use Rattle.std.specs.List.{list_all}
 use Rattle.bcv_base.specs.declared.id.Id16.{Id16}
 use Rattle.bcv_base.specs.declared.log.Entry.{Entry}
