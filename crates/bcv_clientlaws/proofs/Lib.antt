@@ -1,0 +1,12 @@
+pub mod Lists
+pub mod TaskLists
+pub mod Different
+pub mod OtherParts
+pub mod Appended
+pub mod OwnEntries
+pub mod ManifestsRead
+pub mod TaskStarts
+pub mod PendingEnds
+pub mod ResolveSteps
+pub mod FaultsEnd
+pub mod DatabaseForms

@@ -1,0 +1,27 @@
+//! Laws on what ties a client to a log. Each function does nothing: its clauses are the law.
+ghost use Rattle.bcv_clientlaws.specs.ManifestsRead.{ReadFits, ReadIsSeen, SeenIsSeenIn};
+ghost use Rattle.bcv_clientlaws.specs.OwnEntries.{BlocksLeaveFits, CleanupDeletes, CleanupFits, CleanupIsRefused, CleanupReadsOn, CopyFits, CopyIsRefused, CopyWorks, CreateFits, PublicationFits, UploadFits, UploadIsRefused, UploadWorks};
+
+/// Shows that a client fits its log with what it appended itself: a block, a deletion of its cleanup, or a publication.
+pub fn own_entries_fit()
+    ensures blocks { BlocksLeaveFits }
+    ensures publication { PublicationFits }
+    ensures create { CreateFits }
+    ensures copy { CopyFits }
+    ensures upload { UploadFits }
+    ensures cleanup { CleanupFits }
+    ensures copy_works { CopyWorks }
+    ensures upload_works { UploadWorks }
+    ensures cleanup_reads { CleanupReadsOn }
+    ensures cleanup_deletes { CleanupDeletes }
+    ensures refused_copy { CopyIsRefused }
+    ensures refused_upload { UploadIsRefused }
+    ensures refused_cleanup { CleanupIsRefused }
+{}
+
+/// Shows that a client which has read a manifest of the log fits it, with what it keeps, saw and knows then.
+pub fn manifests_fit()
+    ensures seen { ReadIsSeen }
+    ensures read { ReadFits }
+    ensures within { SeenIsSeenIn }
+{}
