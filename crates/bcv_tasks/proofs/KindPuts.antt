@@ -1,5 +1,5 @@
 -- The put of each kind of task is a task's put.
-use Rattle.std.proofs.Common.{◌≡◌, ◌≢◌, ◌∙◌, ℕ, ◌≤◌, Bool, true, false, List, [], ◌∷◌, ◌++◌, Option, Some, None, IfSome, MatchOption, refl, sym, ap, subst}
+use Rattle.std.proofs.Common.{◌≡◌, ◌∙◌, ℕ, Bool, true, false, List, Option, Some, IfSome, MatchOption, refl, sym, ap, subst}
 use Rattle.bcv_base.specs.declared.id.Id16.{Id16}
 use Rattle.bcv_base.specs.declared.log.Entry.{Entry}
 use Rattle.bcv_base.specs.declared.seen.Latest.{Latest}
@@ -23,9 +23,9 @@ use Rattle.bcv_store.specs.StoreShown.{StoreTold, StoreShown}
 use Rattle.bcv_tasks.specs.declared.publish_task.PublishTask.{PublishTask}
 use Rattle.bcv_tasks.specs.declared.publish_task.PublishTask.TheVariants as task
 use Rattle.bcv_tasks.specs.declared.put_answer.PutAnswer.TheVariants as answer
-use Rattle.bcv_tasks.specs.State.{IsRunning, latest_of, left_of, made_over, publish_of, with_publish}
-use Rattle.bcv_tasks.specs.TaskPut.{CompletesCleanup, MayPut, PutsTask, TaskPuts, answer_of}
-use Rattle.bcv_tasks.proofs.PutLaws.{IsOver, Kept, is_made, kept_of, leaves, takes, task_puts, was_refused, was_unknown}
+use Rattle.bcv_tasks.specs.State.{IsRunning, made_over, publish_of, with_publish}
+use Rattle.bcv_tasks.specs.TaskPut.{CompletesCleanup, MayPut, PutsTask, answer_of}
+use Rattle.bcv_tasks.proofs.PutLaws.{IsOver, is_made, kept_of, leaves, takes, task_puts, was_refused, was_unknown}
 use Rattle.bcv_upload.specs.State as upload
 use Rattle.bcv_upload.specs.UploadPut as uploading
 

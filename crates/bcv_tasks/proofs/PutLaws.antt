@@ -1,11 +1,8 @@
 -- The put of a publication, as that of the task that it is of.
-use Rattle.std.proofs.Common.{◌≡◌, ◌∙◌, inl, inr, ℕ, ◌+◌, ◌<◌, ◌≤◌, Bool, true, false, List, [], ◌∷◌, ◌++◌, append-nil, length, Option, Some, None, IfSome, MatchOption, refl, sym, ap, subst}
-use Rattle.std.specs.Option.{option_map}
+use Rattle.std.proofs.Common.{◌≡◌, ◌∙◌, inl, inr, ℕ, Bool, true, false, List, [], ◌∷◌, ◌++◌, append-nil, Option, Some, None, MatchOption, refl, sym, ap, subst}
 use Rattle.bcv_base.specs.declared.id.Id16.{Id16}
 use Rattle.bcv_base.specs.declared.log.Entry.{Entry}
-use Rattle.bcv_base.specs.declared.log.Entry.TheVariants as entry
 use Rattle.bcv_base.specs.declared.manifest.Manifest.{Manifest}
-use Rattle.bcv_base.specs.declared.object.ObjName.TheVariants as object
 use Rattle.bcv_base.specs.declared.outcome.Outcome.{Outcome}
 use Rattle.bcv_base.specs.declared.outcome.Outcome.TheVariants as outcome
 use Rattle.bcv_base.specs.declared.seen.Latest.{Latest}
@@ -23,11 +20,10 @@ use Rattle.bcv_publish.specs.ManifestPut as publishing
 use Rattle.bcv_publish.specs.State as publish
 use Rattle.bcv_store.specs.StoreShown.{StoreTold, StoreShown}
 use Rattle.bcv_tasks.specs.declared.publish_task.PublishTask.{PublishTask}
-use Rattle.bcv_tasks.specs.declared.publish_task.PublishTask.TheVariants as task
 use Rattle.bcv_tasks.specs.declared.put_answer.PutAnswer.{PutAnswer}
 use Rattle.bcv_tasks.specs.declared.put_answer.PutAnswer.TheVariants as answer
 use Rattle.bcv_tasks.specs.State.{Owns, brought, latest_of, names_of, publish_of, with_publish}
-use Rattle.bcv_tasks.specs.TaskPut.{Appends, AnswersPut, FitsAfterPut, IsPassed, IsStillLast, IsTurnedDown, PutLeaves, PutTakes, PutsKeepNames, TaskPuts, answer_of, number_after, with_published, with_refused}
+use Rattle.bcv_tasks.specs.TaskPut.{Appends, AnswersPut, FitsAfterPut, PutLeaves, PutTakes, PutsKeepNames, TaskPuts, answer_of, number_after}
 use Rattle.bcv_tasks.proofs.Owned.{latest_with, names_with, owned_stays, owns_with}
 
 -- ---- answers
