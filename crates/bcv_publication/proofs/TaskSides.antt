@@ -70,7 +70,7 @@ use Rattle.bcv_clientstate.proofs.Bases.{base_block, base_database, pages_len}
 use Rattle.bcv_clientstate.proofs.Growth.{leaves_client}
 use Rattle.bcv_clientstate.proofs.KnownLaws.{known_is_known}
 use Rattle.bcv_clientstate.proofs.PutLaws.{last_is_last, none_is_none}
-use Rattle.bcv_publication.specs.PutSides.{Appended, AnswersDone, Tried}
+use Rattle.bcv_publication.specs.PutSides.{Appended, AnswersDone, Tried, waiting}
 use Rattle.bcv_publication.specs.TaskSides.{DoneIsAnswered, DoneIsKnown, IsLastAnswer, MayStep, PassedIsRefused, RefusalIsAnswered, RefusedIsTriedAgain, StillIsNext, TaskIsAppended, TaskIsTried, done_answer, job_of, number_read, pending_of, seen_task, with_job}
 use Rattle.bcv_publication.proofs.PutMade.{appended_history, container_is, first_after, first_next, locals_stay, version_is}
 
@@ -390,7 +390,7 @@ pub passed_is_refused : PassedIsRefused
 passed_is_refused moment log read sound h = passed_over moment (history_of log) (last_of (history_of log)) read sound refl h
 
 pub done_is_known : DoneIsKnown
-done_is_known log p x brings = known_is_known (history_of log) _ brings
+done_is_known log p x brings = known_is_known (history_of log) (after_note (waiting x p).kept (note.Done x.id brings.number)) brings
 
 -- ---- answers
 
@@ -399,7 +399,7 @@ timed moment [] is some = absurd (omega (arith, some))
 timed moment (i ∷ is) known some = known
 
 begun_count : (s : cleanup.State) (moment : Option ℕ) → IsSome moment → count_begun (option_map (λ (at : ℕ). record { moment = at; count = length (cleanup.taken_ids s) }) moment) ≡ length (cleanup.taken_ids s)
-begun_count s None some = absurd some
+begun_count s None some = absurd (cc)
 begun_count s (Some at) some = refl
 
 begun_of : (o : Option Latest) (l : Latest) (ids : List Id16) → o ≡ Some l → cleanup.HasBegun o ids → 1 ≤ length ids
