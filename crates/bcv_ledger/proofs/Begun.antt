@@ -32,7 +32,7 @@ module _ {D : Type 0} {g : _} (shown : D → DiskShown) (new : Ledger D g) (x : 
       → BeginGoes shown new.log new.databases.kept before x f fault
   goes_as (Some y) fault none goes = absurd (cc)
   goes_as None None none goes = goes
-  goes_as None (Some reply.JournalFull) none goes = (refl, goes)
+  goes_as None (Some reply.JournalFull) none goes = (refl, goes.0, goes.1)
   goes_as None (Some reply.DiskFault) none goes = (refl, goes)
   goes_as None (Some reply.NoMemory) none goes = (refl, goes)
   goes_as None (Some _) none goes = absurd goes

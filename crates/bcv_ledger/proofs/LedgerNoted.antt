@@ -1,5 +1,5 @@
 -- What the notes of a client's log do to what it keeps.
-use Rattle.std.proofs.Common.{◌≡◌, ◌≤◌, ℕ, true, false, List, Some, inl, inr, refl, subst, sym}
+use Rattle.std.proofs.Common.{◌≡◌, ◌≤◌, ◌+◌, ℕ, true, false, List, Some, inl, inr, refl, subst, sym}
 use Rattle.bcv_clientlog.specs.declared.log.ClientLog.{ClientLog}
 use Rattle.bcv_clientlog.specs.LogParts.{Holds, LoadsAs, is_shut, log_area, log_disk, log_start, log_tail, size_kept}
 use Rattle.bcv_clientlog.specs.Noting.{CompactNoteTells, LogCompacts, LogNotes}

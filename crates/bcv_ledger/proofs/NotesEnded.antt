@@ -44,8 +44,8 @@ same_views sets place h at = (h, at, λ from to can. (can, refl))
 pub views_then : (a b c : List (Option Held)) → KeepsViews a b → KeepsViews b c → KeepsViews a c
 views_then a b c one two place h at =
     let p = one place h at in
-    let q = two place p.0 p.1.0 in
-    (q.0, q.1.0, λ from to can. let x = p.1.1 from to can in let y = q.1.1 from to x.0 in (y.0, y.1 ∙ x.1))
+    let q = two place p.0 p.1 in
+    (q.0, q.1, λ from to can. let x = p.2 from to can in let y = q.2 from to x.0 in (y.0, y.1 ∙ x.1))
 
 -- after a change of its own each way, what is kept, known and seen
 pub kept_where : (result : Noted) (x : Note) (old new : Catalog) → EndsWhere (stands result) old new x → new.kept ≡ kept_ended (noted_fault result) old.kept x
@@ -176,7 +176,7 @@ module _ {D : Type 0} {g : _} (told : DiskTold) (shown : D → DiskShown)
   abbrev d : DiskShown
   d = shown (log_disk old.log)
 
-  rested : told.tells → Holds shown old.log old.databases.kept → LeavesOnly d d (LoadsUpTo old.databases.kept (log_tail old.log + log_area old.log) (x ∷ []))
+  pub rested : told.tells → Holds shown old.log old.databases.kept → LeavesOnly d d (LoadsUpTo old.databases.kept (log_tail old.log + log_area old.log) (x ∷ []))
   rested tells holds = record {
     later = omega arith;
     each = λ image left. inl (rest old.databases.kept holds image (only_now (log_disk old.log) tells image left));
@@ -202,3 +202,10 @@ module _ {D : Type 0} {g : _} (told : DiskTold) (shown : D → DiskShown)
     goes = λ tells may f journaled y is.
         subst (λ (k : Kept). Journaled shown new.log k f) (sym kept) (subst (λ (l : ClientLog D g). Journaled shown l old.databases.kept f) (sym same) journaled);
   }
+
+pub never_full : (result : Noted) → result ≢ JournalFull → noted_fault result ≡ Some reply.JournalFull → ⊥
+never_full Done other e = absurd (cc)
+never_full JournalFull other e = other refl
+never_full DiskFault other e = absurd (cc)
+never_full Closed other e = absurd (cc)
+never_full NoMemory other e = absurd (cc)

@@ -44,6 +44,7 @@ impl<D: Disk> Ledger<D> {
         requires is_open { is_shut self.old.log ≡ false }
         ensures { Begins D.told D.shown self.old self.new pending result }
     {
+        let _ = self.log.span();
         if self.databases.kept().pending.is_some() {
             return None;
         }
@@ -67,6 +68,7 @@ impl<D: Disk> Ledger<D> {
         ensures fits { result ≢ Some Reply.JournalFull }
         ensures number { number < 2 ^ 64 }
     {
+        let _ = self.log.span();
         let Ok(found) = known_in(alloc, manifest) else {
             return Some(Reply::NoMemory);
         };
@@ -96,10 +98,10 @@ impl<D: Disk> Ledger<D> {
         ensures fits { result ≢ Some Reply.JournalFull }
         ensures number { number < 2 ^ 64 }
     {
+        let _ = self.log.span();
         if self.databases.reserve().is_err() {
             return Some(Reply::NoMemory);
         }
-        let _ = self.log.span();
         let noted = self.log.done(alloc, &id, number);
         let _ = self.log.span();
         resolve_where(&mut self.databases, number, stands(noted));
