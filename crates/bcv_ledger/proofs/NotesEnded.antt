@@ -167,6 +167,12 @@ module _ {D : Type 0} {g : _} (told : DiskTold) (shown : D → DiskShown) (old n
     goes = λ tells may f journaled y is. goes_as result f y kept (tried.goes tells is_open may f journaled y is);
   }
 
+  -- by what is answered
+  pub ended_by : (fault : Option Reply) (result : Noted) (known : List Known) → fault ≡ noted_fault result → Tried result → new.databases.kept ≡ kept_ended (noted_fault result) old.databases.kept x
+      → new.databases.known ≡ known_ended (noted_fault result) old.databases.known known → KeepsViews old.databases.sets new.databases.sets
+      → NoteEnds told shown old new x known fault
+  ended_by fault result known is tried kept knows views = subst (λ (f : Option Reply). NoteEnds told shown old new x known f) (sym is) (ended result known tried kept knows views)
+
 -- ---- no memory was there, and nothing was tried
 
 module _ {D : Type 0} {g : _} (told : DiskTold) (shown : D → DiskShown)

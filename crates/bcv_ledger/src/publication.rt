@@ -94,7 +94,7 @@ impl<D: Disk> Ledger<D> {
         requires is_open { is_shut self.old.log ≡ false }
         ensures ends { NoteEnds D.told D.shown self.old self.new (Done id number)
             (with_made known_name (known_left number (after_note self.old.databases.kept (Done id number)).locals
-                self.old.databases.kept.pending) self.old.databases.known) result }
+            self.old.databases.kept.pending) self.old.databases.known) result }
         ensures fits { result ≢ Some Reply.JournalFull }
         ensures number { number < 2 ^ 64 }
     {

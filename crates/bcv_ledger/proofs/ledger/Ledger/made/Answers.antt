@@ -10,7 +10,7 @@ use Rattle.bcv_clientstate.specs.KnownLaws.{known_of}
 use Rattle.bcv_ledger.specs.LedgerNotes.{PollsWhere, stands}
 use Rattle.bcv_ledger.specs.NoteEnds.{NoteEnds}
 use Rattle.bcv_ledger.proofs.KnownAt.{ascends_in, kept_polled, known_polled, views_polled}
-use Rattle.bcv_ledger.proofs.NotesEnded.{done_waits, ended, kept_where, known_where, never_full, same_views, still_waits, unnoted, views_where}
+use Rattle.bcv_ledger.proofs.NotesEnded.{done_waits, ended_by, kept_where, known_where, never_full, same_views, still_waits, unnoted, views_where}
 use Rattle.bcv_ledger.proofs.ledger.Ledger.made.Goals as goal
 
 pub returns-in_default-clause-ends : goal.returns-in_default-clause-ends
@@ -40,11 +40,10 @@ returns-clause-ends g c =
     let kept = kept_where r x old.databases mid notes.databases in
     let known = known_where r x old.databases mid notes.databases in
     let views = views_where r x old.databases mid notes.databases in
-    subst (λ (fault : Option Reply). NoteEnds d.told d.shown old _ x (known_of (after_note old.databases.kept x) m) fault) (sym c.noted_fault.ensures)
-    (ended d.told d.shown old _ x c.requires.is_open r _ notes.tried
+    ended_by d.told d.shown old _ x c.requires.is_open _ r _ c.noted_fault.ensures notes.tried
     (kept_polled x m old.databases mid c.poll_where.new.databases found is r kept polls)
     (known_polled x m old.databases mid c.poll_where.new.databases found is r kept known polls)
-    (views_polled x m old.databases mid c.poll_where.new.databases found is r views polls))
+    (views_polled x m old.databases mid c.poll_where.new.databases found is r views polls)
 
 pub returns-clause-fits : goal.returns-clause-fits
 returns-clause-fits g c full = never_full c.finish-noted.result c.finish-noted.ensures.fits (sym c.noted_fault.ensures ∙ full)

@@ -1,4 +1,4 @@
-use Rattle.std.proofs.Common.{◌≡◌, ◌∙◌, List, ap, sym, subst}
+use Rattle.std.proofs.Common.{◌≡◌, ◌∙◌, List, ap, rules, sym, subst}
 use Rattle.bcv_base.specs.ManifestRules.{Ascends}
 use Rattle.bcv_databases.specs.Catalog.{known_name}
 use Rattle.bcv_databases.specs.Changes as changes
@@ -10,7 +10,7 @@ pub polled-requires : goal.polled-requires
 polled-requires g c =
     let m = c.args.manifest.now in
     let is : c.in_ok-found.found.items ≡ changes.known_in m = (search rules) in
-    subst (λ (xs : List Known). Ascends known_name xs) (sym is) (ascends_in m m.dbs c.requires)
+    subst (λ (xs : List Known). Ascends known_name xs) (sym is) (ascends_in m m.dbs c.requires.order)
 
 pub returns-clause-known : goal.returns-clause-known
 returns-clause-known g c =

@@ -5,7 +5,7 @@ use Rattle.bcv_model.specs.declared.reply.Reply.{Reply}
 use Rattle.bcv_ledger.specs.LedgerNotes.{ResolvesWhere, stands}
 use Rattle.bcv_ledger.specs.NoteEnds.{NoteEnds}
 use Rattle.bcv_ledger.proofs.LedgerNoted.{tried}
-use Rattle.bcv_ledger.proofs.NotesEnded.{done_waits, ended, never_full, still_waits, unnoted}
+use Rattle.bcv_ledger.proofs.NotesEnded.{done_waits, ended_by, never_full, still_waits, unnoted}
 use Rattle.bcv_ledger.proofs.Resolved.{kept_resolved, known_resolved, views_resolved}
 use Rattle.bcv_ledger.proofs.ledger.Ledger.resolved.Goals as goal
 
@@ -37,12 +37,11 @@ returns-clause-ends g c =
     let r = c.done-noted.result in
     let mid = c.reserve.new.self in
     let is : ResolvesWhere (stands r) mid c.resolve_where.new.databases c.args.number = subst (λ (b : Bool). ResolvesWhere b mid c.resolve_where.new.databases c.args.number) c.stands.ensures c.resolve_where.ensures in
-    subst (λ (fault : Option Reply). NoteEnds d.told d.shown old _ x _ fault) (sym c.noted_fault.ensures)
-    (ended d.told d.shown old _ x c.requires.is_open r _
+    ended_by d.told d.shown old _ x c.requires.is_open _ r _ c.noted_fault.ensures
     (tried d.told d.shown g.met.D.Disk.counts_now old.log c.done-noted.new.self old.databases.kept x r c.span-2.ensures.leaves refl c.done-noted.ensures.notes)
     (kept_resolved c.args.id c.args.number old.databases mid c.resolve_where.new.databases c.reserve.ensures.same r is)
     (known_resolved c.args.id c.args.number old.databases mid c.resolve_where.new.databases c.reserve.ensures.same r is)
-    (views_resolved c.args.id c.args.number old.databases mid c.resolve_where.new.databases c.reserve.ensures.same r is))
+    (views_resolved c.args.id c.args.number old.databases mid c.resolve_where.new.databases c.reserve.ensures.same r is)
 
 pub returns-clause-fits : goal.returns-clause-fits
 returns-clause-fits g c full = never_full c.done-noted.result c.done-noted.ensures.fits (sym c.noted_fault.ensures ∙ full)
