@@ -8,6 +8,7 @@ use Rattle.bcv_base.specs.declared.outcome.Outcome.TheVariants as outcome
 use Rattle.bcv_base.specs.declared.seen.Latest.{Latest}
 use Rattle.bcv_base.specs.History.{history_of, last_of}
 use Rattle.bcv_base.specs.Image.{Writes}
+use Rattle.bcv_base.specs.ManifestRules.{Ascends, db_name}
 use Rattle.bcv_dbmap.specs.Applied.{first_manifest}
 use Rattle.bcv_dbmap.specs.Kept.{IsKept}
 use Rattle.bcv_publish.specs.declared.created.Created.{Created}
@@ -57,6 +58,7 @@ leaves c moment (created.Done l) running h = record {
   brings = ap Some (sym h);
   number = refl;
   next = ap (λ (m : Manifest). m.number) h ∙ ap number_after (sym running.waits);
+  order = subst (λ (m : Manifest). Ascends db_name m.dbs) (sym h) tt;
   becomes = refl;
 }
 leaves c moment created.Exists running h = (tt, refl)

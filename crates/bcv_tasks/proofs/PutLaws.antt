@@ -8,10 +8,12 @@ use Rattle.bcv_base.specs.declared.outcome.Outcome.TheVariants as outcome
 use Rattle.bcv_base.specs.declared.seen.Latest.{Latest}
 use Rattle.bcv_base.specs.History.{history_of, last_of}
 use Rattle.bcv_base.specs.Image.{Writes}
+use Rattle.bcv_base.specs.ManifestRules.{Ascends, db_name}
 use Rattle.bcv_dbmap.specs.declared.plan.EditPlan.{EditPlan}
 use Rattle.bcv_dbmap.specs.Kept.{IsKept}
 use Rattle.bcv_dbmap.specs.RequestGrowth.{RequestGrowth}
 use Rattle.bcv_dbmap.specs.Sound.{Sound}
+use Rattle.bcv_dbmap.proofs.Entries.{ascends_after}
 use Rattle.bcv_publish.specs.declared.work.PutEnd.{PutEnd}
 use Rattle.bcv_publish.specs.declared.work.PutEnd.TheVariants as put
 use Rattle.bcv_publish.specs.ManifestAppend.{IsAppended}
@@ -71,6 +73,7 @@ pub record IsOver (t : PublishTask) (plan : EditPlan) (moment : ℕ) (read : Lat
   pub unmade : with_publish t (publish_of t) false ≡ t
   pub kept : latest_of t ≡ Some read
   pub brings : brought t moment ≡ Some (made (publish_of t) read plan moment)
+  pub order : Ascends db_name read.manifest.dbs
 
 pub leaves : (moment : ℕ) (t : PublishTask) (plan : EditPlan) (read : Latest) (e : PutEnd) (p : publish.State) → IsOver t plan moment read
     → publishing.PutLeaves plan moment (publish_of t) read e p → PutLeaves moment t (answer_of e) (with_publish t p (is_made e))
@@ -80,6 +83,7 @@ leaves moment t plan read (put.Published n) p over h = record {
   brings = over.brings;
   number = h.1;
   next = h.1 ∙ ap number_after (sym over.kept);
+  order = ascends_after plan (publish_of t).id read.manifest.dbs over.order;
   becomes = ap (λ (q : publish.State). with_publish t q true) h.2;
 }
 leaves moment t plan read put.Refused p over h = (
