@@ -27,7 +27,8 @@ use Rattle.bcv_clientstate.specs.SeenKept.{seen_kept, seen_pending}
 use Rattle.bcv_clientstate.proofs.NoteLaws.{are_steps}
 use Rattle.bcv_clientstate.proofs.NoteSides.{stands_as_noted, fails_as_noted, full_as_noted}
 use Rattle.bcv_publication.specs.PutExits.{IntentMeetsFull, IntentMeetsFault, PutIsDone, DoneMeetsFault, PutIsRefused, PutIsVoid, VoidMeetsFault, PutFailed, PutIsLost, RefusalIsLost}
-use Rattle.bcv_publication.specs.PutSides.{Appended, AnswersDone, AreKnownAt, IsQuiet, Tried, WaitsFor, free_intended, free_untried, published, shut, voided, waiting}
+use Rattle.bcv_ledger.specs.Begins.{WaitsFor, free_intended, free_untried}
+use Rattle.bcv_publication.specs.PutSides.{Appended, AnswersDone, AreKnownAt, IsQuiet, Tried, published, shut, voided, waiting}
 
 -- ---- tasks that publish nothing
 

@@ -53,7 +53,7 @@ use Rattle.bcv_tasks.specs.declared.publish_task.PublishTask.{PublishTask}
 use Rattle.bcv_tasks.specs.declared.publish_task.PublishTask.TheVariants as task
 use Rattle.bcv_tasks.specs.declared.put_answer.PutAnswer.{PutAnswer}
 use Rattle.bcv_tasks.specs.declared.put_answer.PutAnswer.TheVariants as answer
-use Rattle.bcv_tasks.specs.State.{IsRunning, brought, is_ready, latest_of, left_of, made_over, refused_of}
+use Rattle.bcv_tasks.specs.State.{IsRunning, brought, is_ready, latest_of, left_of, made_over, pending_of}
 use Rattle.bcv_tasks.specs.TaskPut.{Appends, IsPassed, IsStillLast, IsTurnedDown, PutLeaves, number_after, with_refused}
 use Rattle.bcv_upload.specs.BlockText.{IsViewOf}
 use Rattle.bcv_upload.specs.State as upload
@@ -71,7 +71,7 @@ use Rattle.bcv_clientstate.proofs.Growth.{leaves_client}
 use Rattle.bcv_clientstate.proofs.KnownLaws.{known_is_known}
 use Rattle.bcv_clientstate.proofs.PutLaws.{last_is_last, none_is_none}
 use Rattle.bcv_publication.specs.PutSides.{Appended, AnswersDone, Tried, waiting}
-use Rattle.bcv_publication.specs.TaskSides.{DoneIsAnswered, DoneIsKnown, IsLastAnswer, MayStep, PassedIsRefused, RefusalIsAnswered, RefusedIsTriedAgain, StillIsNext, TaskIsAppended, TaskIsTried, done_answer, job_of, number_read, pending_of, seen_task, with_job}
+use Rattle.bcv_publication.specs.TaskSides.{DoneIsAnswered, DoneIsKnown, IsLastAnswer, MayStep, PassedIsRefused, RefusalIsAnswered, RefusedIsTriedAgain, StillIsNext, TaskIsAppended, TaskIsTried, done_answer, job_of, number_read, seen_task, with_job}
 use Rattle.bcv_publication.proofs.PutMade.{appended_history, container_is, first_after, first_next, locals_stay, version_is}
 
 -- ---- the kinds of a copy
@@ -467,11 +467,11 @@ tried_anew q left waits id o l two same is =
 pub refused_is_tried_again : RefusedIsTriedAgain
 refused_is_tried_again moment before view (task.Create c) u running ready h two = absurd (create_reads c.latest h.1.1.read running.waits h.1.1.kept)
 refused_is_tried_again moment before view (task.Copy id s) u running ready h two =
-    ap (seen_task (Some (pending_of view (task.Copy id s))) view) h.1.1.becomes
+    ap (seen_task (Some (pending_of (length view) (task.Copy id s))) view) h.1.1.becomes
     ∙ tried_anew (seen_task before view (task.Copy id s)) (left_of (with_refused (task.Copy id s) h.1.1.read)) id s.publish.id s.publish.latest h.1.1.read (ap left_of (sym h.1.1.becomes) ∙ two) running.0 h.1.1.kept
 refused_is_tried_again moment before view (task.Upload id s) u running ready h two =
-    ap (seen_task (Some (pending_of view (task.Upload id s))) view) h.1.1.becomes
+    ap (seen_task (Some (pending_of (length view) (task.Upload id s))) view) h.1.1.becomes
     ∙ tried_anew (seen_task before view (task.Upload id s)) (left_of (with_refused (task.Upload id s) h.1.1.read)) id s.publish.id s.publish.latest h.1.1.read (ap left_of (sym h.1.1.becomes) ∙ two) running.0 h.1.1.kept
 refused_is_tried_again moment before view (task.Cleanup id s) u running ready h two =
-    ap (seen_task (Some (pending_of view (task.Cleanup id s))) view) h.1.1.becomes
+    ap (seen_task (Some (pending_of (length view) (task.Cleanup id s))) view) h.1.1.becomes
     ∙ tried_anew (seen_task before view (task.Cleanup id s)) (left_of (with_refused (task.Cleanup id s) h.1.1.read)) id s.publish.id s.publish.latest h.1.1.read (ap left_of (sym h.1.1.becomes) ∙ two) running.0 h.1.1.kept

@@ -17,7 +17,8 @@ use Rattle.bcv_databases.specs.declared.known.Known.{Known}
 use Rattle.bcv_clientstate.specs.Parts.{Parts}
 use Rattle.bcv_clientstate.specs.SeenClient.{Free, seen_up, side_of}
 use Rattle.bcv_clientstate.specs.SeenContainer.{container_of}
-use Rattle.bcv_publication.specs.PutSides.{Appended, AnswersDone, AreKnownAt, Tried, free_intended, free_untried, published, shut, voided, waiting}
+use Rattle.bcv_ledger.specs.Begins.{free_intended, free_untried}
+use Rattle.bcv_publication.specs.PutSides.{Appended, AnswersDone, AreKnownAt, Tried, published, shut, voided, waiting}
 
 -- the machine's put over a history, by a client with its task taken out, ends so
 abbrev pub PutsTo : Bool → ℕ → List Item → Parts → Free → m.Publication → ℕ → Outcome → Option ℕ → Reply → m.Side → Option m.Publication → Type 0

@@ -13,23 +13,18 @@ use Rattle.bcv_model.specs.declared.note.Note.TheVariants as note
 use Rattle.bcv_model.specs.declared.reply.Reply.{Reply}
 use Rattle.bcv_model.specs.declared.reply.Reply.TheVariants as reply
 use Rattle.bcv_model.specs.NoteRules.{MayUpload}
-use Rattle.bcv_model.specs.Notes.{after_note, note_size}
+use Rattle.bcv_model.specs.Notes.{after_note}
 use Rattle.bcv_clientstate.specs.BaseLaws.{FitsLocal, FitsUpload}
-use Rattle.bcv_clientstate.specs.Journaled.{free_failed, free_noted}
 use Rattle.bcv_clientstate.specs.KeptLaws.{IsOrdered}
 use Rattle.bcv_clientstate.specs.NoteSides.{with_note}
 use Rattle.bcv_databases.specs.declared.known.Known.{Known}
 use Rattle.bcv_clientstate.specs.Parts.{Job, Fetching, Polling, Creating, Copying, Uploading, Cleaning, Resolving, Task, Parts}
-use Rattle.bcv_clientstate.specs.SeenClient.{Free, has_intent, seen_known, seen_txn}
+use Rattle.bcv_clientstate.specs.SeenClient.{has_intent, seen_known, seen_txn}
 use Rattle.bcv_clientstate.specs.SeenContainer.{container_of}
-use Rattle.bcv_clientstate.specs.SeenKept.{seen_kept, seen_pending, seen_upload}
+use Rattle.bcv_clientstate.specs.SeenKept.{seen_kept, seen_upload}
+use Rattle.bcv_ledger.specs.Begins.{WaitsFor}
 
 -- ---- what may be tried
-
--- nothing is pending, or this is
-abbrev pub WaitsFor : Option PendingPub → PendingPub → Type 0
-WaitsFor None x = Unit {0}
-WaitsFor (Some p) x = p ≡ x
 
 -- the job publishes nothing
 abbrev pub IsQuiet : Job → Type 0
@@ -73,15 +68,6 @@ voided x p = with_note (note.Void x.id) (waiting x p)
 -- a note of its end failed: the journal is closed
 abbrev pub shut : Parts → Parts
 shut p = record p { closed = true }
-
--- the intent is noted where nothing was pending
-abbrev pub free_intended : Option PendingPub → PendingPub → Free → Free
-free_intended None x f = free_noted (note_size (note.Intent x)) f
-free_intended (Some p) x f = f
-
--- the intent failed
-abbrev pub free_untried : PendingPub → Free → Free
-free_untried x f = free_failed (note_size (note.Intent x)) (m.Intending (seen_pending x)) f
 
 -- ---- the version that was made
 

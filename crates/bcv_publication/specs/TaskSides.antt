@@ -14,7 +14,6 @@ use Rattle.bcv_dbmap.specs.Sound.{Sound}
 use Rattle.bcv_machine.specs.ManifestPut.{IsNext, IsRefused, is_last_try, last_refusal, tried_again}
 use Rattle.bcv_machine.specs.State as m
 use Rattle.bcv_model.specs.declared.kept.PendingPub.{PendingPub}
-use Rattle.bcv_model.specs.declared.kept.Uploading.{Uploading}
 use Rattle.bcv_model.specs.declared.note.Note.TheVariants as note
 use Rattle.bcv_model.specs.declared.reply.Reply.{Reply}
 use Rattle.bcv_model.specs.declared.reply.Reply.TheVariants as reply
@@ -23,15 +22,15 @@ use Rattle.bcv_tasks.specs.declared.publish_task.PublishTask.{PublishTask}
 use Rattle.bcv_tasks.specs.declared.publish_task.PublishTask.TheVariants as task
 use Rattle.bcv_tasks.specs.declared.put_answer.PutAnswer.{PutAnswer}
 use Rattle.bcv_tasks.specs.declared.put_answer.PutAnswer.TheVariants as answer
-use Rattle.bcv_tasks.specs.State.{IsRunning, brought, has_further, id_of, is_ready, latest_of, left_of, refused_of, taken_count}
+use Rattle.bcv_tasks.specs.State.{IsRunning, brought, is_ready, latest_of, left_of, pending_of}
 use Rattle.bcv_tasks.specs.TaskPut.{Appends, IsPassed, IsStillLast, PutLeaves}
-use Rattle.bcv_upload.specs.State.{entry_with}
 use Rattle.bcv_clientstate.specs.Fits.{Fits}
 use Rattle.bcv_clientstate.specs.KnownLaws.{known_of}
 use Rattle.bcv_clientstate.specs.Parts.{Job, Creating, Copying, Uploading as Uploads, Cleaning, Task, Parts}
 use Rattle.bcv_clientstate.specs.SeenClient.{seen_cleaning, seen_copying, seen_create, seen_uploading}
 use Rattle.bcv_clientstate.specs.SeenContainer.{container_of}
-use Rattle.bcv_publication.specs.PutSides.{AnswersDone, Appended, AreKnownAt, IsQuiet, Tried, WaitsFor, waiting}
+use Rattle.bcv_publication.specs.PutSides.{AnswersDone, Appended, AreKnownAt, IsQuiet, Tried, waiting}
+use Rattle.bcv_ledger.specs.Begins.{WaitsFor}
 
 -- ---- what a task is seen as
 
@@ -48,16 +47,6 @@ job_of view (task.Create c) = Creating c.block c.retention c.id
 job_of view (task.Copy id s) = Copying s
 job_of view (task.Upload id s) = Uploads s view
 job_of view (task.Cleanup id s) = Cleaning s
-
--- what its intent has of an upload: how many commits it takes, and the entry that it publishes
-abbrev pub upload_of : List Writes → PublishTask → Option Uploading
-upload_of view (task.Upload id s) =
-    Some (record { count = length view; block = s.base.block; entry = entry_with s.base s.size s.touched s.ids s.publish.id })
-upload_of view _ = None
-
--- what is pending once its intent is noted
-abbrev pub pending_of : List Writes → PublishTask → PendingPub
-pending_of view t = record { id = id_of t; upload = upload_of view t }
 
 -- the number of the manifest that its put is made over; a create is as though it had read number 0
 abbrev pub number_read : Option Latest → ℕ
@@ -77,14 +66,14 @@ pub record MayStep (log : List Entry) (p : Parts) (entries : List cache.Entry) (
   pub fits : Fits (with_job n (job_of view t) p) entries log
   pub quiet : AllByRecursion (λ (x : Task). IsQuiet x.job) p.tasks
   pub running : IsRunning t
-  pub waits : WaitsFor p.kept.pending (pending_of view t)
+  pub waits : WaitsFor p.kept.pending (pending_of (length view) t)
   pub count : length view < 2 ^ 64
 
 -- the task's put may be tried, and its intent may stand
 abbrev pub TaskIsTried : Type 0
 TaskIsTried =
     (log : List Entry) (p : Parts) (entries : List cache.Entry) (n : ℕ) (view : List Writes) (t : PublishTask) → MayStep log p entries n view t → is_ready t ≡ true
-    → Tried (history_of log) p (seen_task p.kept.pending view t) (pending_of view t)
+    → Tried (history_of log) p (seen_task p.kept.pending view t) (pending_of (length view) t)
 
 -- ---- its put
 
@@ -142,4 +131,4 @@ RefusalIsAnswered =
 abbrev pub RefusedIsTriedAgain : Type 0
 RefusedIsTriedAgain =
     (moment : ℕ) (before : Option PendingPub) (view : List Writes) (t u : PublishTask) → IsRunning t → is_ready t ≡ true → PutLeaves moment t answer.Refused u → left_of u ≡ 2
-    → seen_task (Some (pending_of view t)) view u ≡ tried_again (seen_task before view t) (number_read (latest_of t))
+    → seen_task (Some (pending_of (length view) t)) view u ≡ tried_again (seen_task before view t) (number_read (latest_of t))
