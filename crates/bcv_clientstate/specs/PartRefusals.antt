@@ -22,7 +22,7 @@ use Rattle.bcv_model.specs.Notes.{kept_name}
 use Rattle.bcv_databases.specs.Catalog.{known_name}
 use Rattle.bcv_clientstate.specs.Fits.{Fits}
 use Rattle.bcv_databases.specs.declared.known.Known.{Known}
-use Rattle.bcv_clientstate.specs.Parts.{Job, Fetching, Polling, Creating, Copying, Uploading, Cleaning, Resolving, Task, Parts}
+use Rattle.bcv_clientstate.specs.Parts.{Job, Fetching, Polling, Creating, Copying, Uploading, Cleaning, Resolving, Task, Parts, LedgerParts, ledger_of}
 use Rattle.bcv_clientstate.specs.SeenClient.{Free, seen_up, side_of}
 use Rattle.bcv_clientstate.specs.SeenContainer.{HasBase}
 use Rattle.bcv_clientstate.specs.SeenKept.{seen_kept}
@@ -42,8 +42,11 @@ local_part l = record { entry = l.entry; number = l.number; block = l.block; com
 abbrev pub known_part : Known → PartView
 known_part k = record { entry = k.entry; number = k.number; block = k.block; commits = [] }
 
+abbrev pub part_view_in : LedgerParts → List ℕ → Option PartView
+part_view_in l db = or_else (option_map local_part (keyed kept_name db l.kept.locals)) (option_map known_part (keyed known_name db l.known))
+
 abbrev pub part_view : Parts → List ℕ → Option PartView
-part_view p db = or_else (option_map local_part (keyed kept_name db p.kept.locals)) (option_map known_part (keyed known_name db p.known))
+part_view p db = part_view_in (ledger_of p) db
 
 abbrev pub seen_view : PartView → m.View
 seen_view v = record { base = v.number; commits = v.commits }
@@ -86,17 +89,27 @@ abbrev pub large_commit : Writes → Option PartView → Bool
 large_commit w None = false
 large_commit w (Some v) = nat_lt 65536 (blocks_needed v.block v.entry.page_size w.size)
 
+abbrev pub commit_reason_in : LedgerParts → List ℕ → Writes → Option Reply
+commit_reason_in l db w =
+    first_reason ((l.closed, reply.Closed) ∷ (is_none (part_view_in l db), reply.NoDatabase) ∷ (bad_commit w (part_view_in l db), reply.BadPage) ∷ (large_commit w (part_view_in l db), reply.TooLarge) ∷ [])
+
 abbrev pub commit_reason : Parts → List ℕ → Writes → Option Reply
-commit_reason p db w =
-    first_reason ((p.closed, reply.Closed) ∷ (is_none (part_view p db), reply.NoDatabase) ∷ (bad_commit w (part_view p db), reply.BadPage) ∷ (large_commit w (part_view p db), reply.TooLarge) ∷ [])
+commit_reason p db w = commit_reason_in (ledger_of p) db w
+
+abbrev pub has_local_in : LedgerParts → List ℕ → Bool
+has_local_in l db = is_some (keyed kept_name db l.kept.locals)
 
 abbrev pub has_local : Parts → List ℕ → Bool
-has_local p db = is_some (keyed kept_name db p.kept.locals)
+has_local p db = has_local_in (ledger_of p) db
+
+-- where a publication or a resolve may run beside it
+abbrev pub revert_reason_in : LedgerParts → Bool → List ℕ → Option Reply
+revert_reason_in l busy db =
+    first_reason
+    ((l.closed, reply.Closed) ∷ (is_some l.kept.pending, reply.Pending) ∷ (busy, reply.Busy) ∷ (is_none (part_view_in l db), reply.NoDatabase) ∷ (not (has_local_in l db), reply.Nothing) ∷ [])
 
 abbrev pub revert_reason : Parts → List ℕ → Option Reply
-revert_reason p db =
-    first_reason
-    ((p.closed, reply.Closed) ∷ (is_some p.kept.pending, reply.Pending) ∷ (runs_publication p, reply.Busy) ∷ (is_none (part_view p db), reply.NoDatabase) ∷ (not (has_local p db), reply.Nothing) ∷ [])
+revert_reason p db = revert_reason_in (ledger_of p) (runs_publication p) db
 
 -- ---- that they are the machine's
 

@@ -47,6 +47,21 @@ pub record Parts : Type 0 where
   pub txns : List OpenTxn
   pub tasks : List Task
 
+-- ---- the ledger
+
+-- of a client's parts those that its log and the databases have: whether the journal is closed, what is kept, and what is known
+pub record LedgerParts : Type 0 where
+  pub closed : Bool
+  pub kept : Kept
+  pub known : List Known
+
+abbrev pub ledger_of : Parts → LedgerParts
+ledger_of p = record { closed = p.closed; kept = p.kept; known = p.known }
+
+-- the client with these
+abbrev pub with_ledger : LedgerParts → Parts → Parts
+with_ledger l p = record p { closed = l.closed; kept = l.kept; known = l.known }
+
 -- ---- the names that are mine
 
 abbrev pub names_of_pending : Option PendingPub → List Id16

@@ -1,5 +1,5 @@
 -- The put of a container's first manifest is a task's put.
-use Rattle.std.proofs.Common.{◌≡◌, ◌≢◌, ◌∙◌, ℕ, Bool, true, false, List, [], ◌∷◌, ◌++◌, Option, Some, None, is_none, MatchOption, refl, sym, ap, subst}
+use Rattle.std.proofs.Common.{◌≡◌, ◌≢◌, ◌∙◌, ℕ, false, List, ◌++◌, Option, Some, None, is_none, refl, sym, ap, subst}
 use Rattle.bcv_base.specs.declared.id.Id16.{Id16}
 use Rattle.bcv_base.specs.declared.log.Entry.{Entry}
 use Rattle.bcv_base.specs.declared.manifest.Manifest.{Manifest}
@@ -8,20 +8,20 @@ use Rattle.bcv_base.specs.declared.outcome.Outcome.TheVariants as outcome
 use Rattle.bcv_base.specs.declared.seen.Latest.{Latest}
 use Rattle.bcv_base.specs.History.{history_of, last_of}
 use Rattle.bcv_base.specs.Image.{Writes}
+use Rattle.bcv_base.specs.ManifestRules.{Ascends, db_name}
 use Rattle.bcv_dbmap.specs.Applied.{first_manifest}
 use Rattle.bcv_dbmap.specs.Kept.{IsKept}
 use Rattle.bcv_publish.specs.declared.created.Created.{Created}
 use Rattle.bcv_publish.specs.declared.created.Created.TheVariants as created
-use Rattle.bcv_publish.specs.ManifestCreate.{CreateCause, CreateFails, CreateLeaves, CreateTakes, ManifestCreateSound, ManifestCreates, SoundCreateEnds}
+use Rattle.bcv_publish.specs.ManifestCreate.{CreateCause, CreateFails, CreateLeaves, CreateTakes, ManifestCreateSound, SoundCreateEnds}
 use Rattle.bcv_store.specs.StoreShown.{StoreTold, StoreShown}
 use Rattle.bcv_base.specs.Faults.{Rose}
 use Rattle.bcv_tasks.specs.declared.create_task.CreateTask.{CreateTask}
-use Rattle.bcv_tasks.specs.declared.publish_task.PublishTask.{PublishTask}
 use Rattle.bcv_tasks.specs.declared.publish_task.PublishTask.TheVariants as task
 use Rattle.bcv_tasks.specs.declared.put_answer.PutAnswer.{PutAnswer}
 use Rattle.bcv_tasks.specs.declared.put_answer.PutAnswer.TheVariants as answer
-use Rattle.bcv_tasks.specs.State.{IsCreate, latest_of}
-use Rattle.bcv_tasks.specs.TaskPut.{AnswersPut, Appends, Creates, FitsAfterPut, MayPut, PutLeaves, PutTakes, PutsTask, Settles, TaskPuts, number_after}
+use Rattle.bcv_tasks.specs.State.{IsCreate}
+use Rattle.bcv_tasks.specs.TaskPut.{AnswersPut, Creates, FitsAfterPut, PutLeaves, PutTakes, PutsTask, Settles, TaskPuts, number_after}
 use Rattle.bcv_tasks.proofs.PutLaws.{Ended, appended_is_kept}
 
 -- what the end of a create answers
@@ -58,6 +58,7 @@ leaves c moment (created.Done l) running h = record {
   brings = ap Some (sym h);
   number = refl;
   next = ap (λ (m : Manifest). m.number) h ∙ ap number_after (sym running.waits);
+  order = subst (λ (m : Manifest). Ascends db_name m.dbs) (sym h) tt;
   becomes = refl;
 }
 leaves c moment created.Exists running h = (tt, refl)

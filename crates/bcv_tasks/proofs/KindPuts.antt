@@ -1,5 +1,5 @@
 -- The put of each kind of task is a task's put.
-use Rattle.std.proofs.Common.{◌≡◌, ◌≢◌, ◌∙◌, ℕ, ◌≤◌, Bool, true, false, List, [], ◌∷◌, ◌++◌, Option, Some, None, IfSome, MatchOption, refl, sym, ap, subst}
+use Rattle.std.proofs.Common.{◌≡◌, ◌∙◌, ℕ, Bool, true, false, List, Option, Some, IfSome, MatchOption, refl, sym, ap, subst}
 use Rattle.bcv_base.specs.declared.id.Id16.{Id16}
 use Rattle.bcv_base.specs.declared.log.Entry.{Entry}
 use Rattle.bcv_base.specs.declared.seen.Latest.{Latest}
@@ -15,7 +15,7 @@ use Rattle.bcv_dbmap.specs.Kept.{IsKept}
 use Rattle.bcv_dbmap.specs.Past.{has_version}
 use Rattle.bcv_publish.specs.declared.work.PutEnd.{PutEnd}
 use Rattle.bcv_publish.specs.declared.work.PutEnd.TheVariants as put
-use Rattle.bcv_publish.specs.ManifestPut.{ManifestPuts, ManifestPutSound}
+use Rattle.bcv_publish.specs.ManifestPut.{IsReady, ManifestPuts, ManifestPutSound}
 use Rattle.bcv_publish.specs.ManifestPut as publishing
 use Rattle.bcv_publish.specs.Request.{OverSoundLog}
 use Rattle.bcv_publish.specs.State as publish
@@ -23,9 +23,11 @@ use Rattle.bcv_store.specs.StoreShown.{StoreTold, StoreShown}
 use Rattle.bcv_tasks.specs.declared.publish_task.PublishTask.{PublishTask}
 use Rattle.bcv_tasks.specs.declared.publish_task.PublishTask.TheVariants as task
 use Rattle.bcv_tasks.specs.declared.put_answer.PutAnswer.TheVariants as answer
-use Rattle.bcv_tasks.specs.State.{IsRunning, latest_of, left_of, made_over, publish_of, with_publish}
-use Rattle.bcv_tasks.specs.TaskPut.{CompletesCleanup, MayPut, PutsTask, TaskPuts, answer_of}
-use Rattle.bcv_tasks.proofs.PutLaws.{IsOver, Kept, is_made, kept_of, leaves, takes, task_puts, was_refused, was_unknown}
+use Rattle.bcv_tasks.specs.State.{IsRunning, made_over, publish_of, with_publish}
+use Rattle.bcv_tasks.specs.TaskPut.{CompletesCleanup, MayPut, PutsTask, answer_of}
+use Rattle.bcv_tasks.proofs.PutLaws.{IsOver, is_made, kept_of, leaves, takes, task_puts, was_refused, was_unknown}
+use Rattle.bcv_dbcopy.proofs.Tasks.{any_ready as copy_ready}
+use Rattle.bcv_upload.proofs.Tasks.{any_ready as upload_ready}
 use Rattle.bcv_upload.specs.State as upload
 use Rattle.bcv_upload.specs.UploadPut as uploading
 
@@ -68,12 +70,12 @@ copy_may mine log view id s read same is may = record {
   blocks = may.owns;
 }
 
-pub copy_puts : (store : StoreTold) (old new : StoreShown) (id : Id16) (s t : copy.State) (moment : ℕ) (e : PutEnd) → IsRunning (task.Copy id s)
+pub copy_puts : (store : StoreTold) (old new : StoreShown) (id : Id16) (s t : copy.State) (moment : ℕ) (e : PutEnd) → IsRunning (task.Copy id s) → copy.is_ready s ≡ true
     → MatchOption s.publish.latest ⊥ (λ read. copying.PutLeaves moment s read e t)
     → MatchOption s.publish.latest ⊥ (λ read. ManifestPuts store old new s.publish read s.edit moment e t.publish)
     → OverSoundLog store old new (λ mine. MatchOption s.publish.latest ⊥ (λ read. copying.MayPut mine old.log s read → ManifestPutSound store mine old new s.publish read s.edit moment e t.publish))
     → PutsTask store old new (task.Copy id s) moment (answer_of e) (task.Copy id t)
-copy_puts store old new id s t moment e running left request sound =
+copy_puts store old new id s t moment e running ready left request sound =
     let k = kept_of (λ read. copying.PutLeaves moment s read e t) s.publish.latest left in
     let p : publish.State = k.fact.0 in
     let same : t.publish ≡ p = ap (λ (x : copy.State). x.publish) k.fact.2 in
@@ -82,6 +84,7 @@ copy_puts store old new id s t moment e running left request sound =
       unmade = ap (λ (b : Bool). task.Copy id (record s { published = b })) (sym running.1.waits);
       kept = k.is;
       brings = ap (made_over s.publish s.edit moment) k.is;
+      order = (subst (λ (o : Option Latest). MatchOption o ⊥ (λ l. IsReady l.manifest s.edit s.publish.writer)) k.is (copy_ready s running.1.task ready)).rules.dbs;
     })
     (ap (λ (b : Bool). task.Copy id (record s { publish = p; published = b })) (sym (copy_made e)) ∙ ap (task.Copy id) (sym k.fact.2))
     k.fact.1
@@ -120,13 +123,13 @@ upload_may mine log view id s read same is may = record {
   blocks = may.owns;
 }
 
-pub upload_puts : (store : StoreTold) (old new : StoreShown) (id : Id16) (s t : upload.State) (moment : ℕ) (e : PutEnd) → IsRunning (task.Upload id s)
+pub upload_puts : (store : StoreTold) (old new : StoreShown) (id : Id16) (s t : upload.State) (moment : ℕ) (e : PutEnd) → IsRunning (task.Upload id s) → upload.is_ready s ≡ true
     → MatchOption s.publish.latest ⊥ (λ read. uploading.PutLeaves moment s read e t)
     → MatchOption s.publish.latest ⊥ (λ read. ManifestPuts store old new s.publish read (upload.plan_of s) moment e t.publish)
     → OverSoundLog store old new (λ mine. MatchOption s.publish.latest ⊥ (λ read. (view : List Writes) → uploading.MayPut mine old.log view s read
     → ManifestPutSound store mine old new s.publish read (upload.plan_of s) moment e t.publish))
     → PutsTask store old new (task.Upload id s) moment (answer_of e) (task.Upload id t)
-upload_puts store old new id s t moment e running left request sound =
+upload_puts store old new id s t moment e running ready left request sound =
     let k = kept_of (λ read. uploading.PutLeaves moment s read e t) s.publish.latest left in
     let p : publish.State = k.fact.0 in
     let same : t.publish ≡ p = ap (λ (x : upload.State). x.publish) k.fact.2 in
@@ -135,6 +138,7 @@ upload_puts store old new id s t moment e running left request sound =
       unmade = ap (λ (b : Bool). task.Upload id (record s { published = b })) (sym running.1.waits);
       kept = k.is;
       brings = ap (made_over s.publish (upload.plan_of s) moment) k.is;
+      order = (subst (λ (o : Option Latest). MatchOption o ⊥ (λ l. IsReady l.manifest (upload.plan_of s) s.publish.writer)) k.is (upload_ready s (upload.plan_of s) refl running.1.task ready)).rules.dbs;
     })
     (ap (λ (b : Bool). task.Upload id (record s { publish = p; published = b })) (sym (upload_made e)) ∙ ap (task.Upload id) (sym k.fact.2))
     k.fact.1
@@ -187,6 +191,7 @@ cleanup_puts store old new id s t moment e running left request sound =
       unmade = ap (λ (b : Bool). task.Cleanup id (record s { published = b })) (sym running.1.waits);
       kept = k.is;
       brings = ap (made_over s.publish s.edit moment) k.is;
+      order = (subst (cleanup.IsRead s) k.is (running.1.task.stage running.1.waits)).rules.dbs;
     })
     (ap (λ (b : Bool). task.Cleanup id (record s { publish = p; published = b })) (sym (cleanup_made e)) ∙ ap (task.Cleanup id) (sym k.fact.2))
     k.fact.1

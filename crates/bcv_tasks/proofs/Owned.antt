@@ -1,8 +1,7 @@
 -- What a task has put stays its own: under what others append, and once its publication has another manifest.
-use Rattle.std.proofs.Common.{◌≡◌, Bool, List, [], ◌∷◌, Option, Some, None, refl}
+use Rattle.std.proofs.Common.{◌≡◌, Bool, List, refl}
 use Rattle.bcv_base.specs.declared.id.Id16.{Id16}
 use Rattle.bcv_base.specs.declared.log.Entry.{Entry}
-use Rattle.bcv_base.specs.declared.seen.Latest.{Latest}
 use Rattle.bcv_base.specs.Image.{Writes}
 use Rattle.bcv_cleanup.proofs.Taken.{taken_stays}
 use Rattle.bcv_dbcopy.proofs.Owned as copying

@@ -1,20 +1,19 @@
 -- The put of a publication, as that of the task that it is of.
-use Rattle.std.proofs.Common.{◌≡◌, ◌∙◌, inl, inr, ℕ, ◌+◌, ◌<◌, ◌≤◌, Bool, true, false, List, [], ◌∷◌, ◌++◌, append-nil, length, Option, Some, None, IfSome, MatchOption, refl, sym, ap, subst}
-use Rattle.std.specs.Option.{option_map}
+use Rattle.std.proofs.Common.{◌≡◌, ◌∙◌, inl, inr, ℕ, Bool, true, false, List, [], ◌∷◌, ◌++◌, append-nil, Option, Some, None, MatchOption, refl, sym, ap, subst}
 use Rattle.bcv_base.specs.declared.id.Id16.{Id16}
 use Rattle.bcv_base.specs.declared.log.Entry.{Entry}
-use Rattle.bcv_base.specs.declared.log.Entry.TheVariants as entry
 use Rattle.bcv_base.specs.declared.manifest.Manifest.{Manifest}
-use Rattle.bcv_base.specs.declared.object.ObjName.TheVariants as object
 use Rattle.bcv_base.specs.declared.outcome.Outcome.{Outcome}
 use Rattle.bcv_base.specs.declared.outcome.Outcome.TheVariants as outcome
 use Rattle.bcv_base.specs.declared.seen.Latest.{Latest}
 use Rattle.bcv_base.specs.History.{history_of, last_of}
 use Rattle.bcv_base.specs.Image.{Writes}
+use Rattle.bcv_base.specs.ManifestRules.{Ascends, db_name}
 use Rattle.bcv_dbmap.specs.declared.plan.EditPlan.{EditPlan}
 use Rattle.bcv_dbmap.specs.Kept.{IsKept}
 use Rattle.bcv_dbmap.specs.RequestGrowth.{RequestGrowth}
 use Rattle.bcv_dbmap.specs.Sound.{Sound}
+use Rattle.bcv_dbmap.proofs.Entries.{ascends_after}
 use Rattle.bcv_publish.specs.declared.work.PutEnd.{PutEnd}
 use Rattle.bcv_publish.specs.declared.work.PutEnd.TheVariants as put
 use Rattle.bcv_publish.specs.ManifestAppend.{IsAppended}
@@ -23,11 +22,10 @@ use Rattle.bcv_publish.specs.ManifestPut as publishing
 use Rattle.bcv_publish.specs.State as publish
 use Rattle.bcv_store.specs.StoreShown.{StoreTold, StoreShown}
 use Rattle.bcv_tasks.specs.declared.publish_task.PublishTask.{PublishTask}
-use Rattle.bcv_tasks.specs.declared.publish_task.PublishTask.TheVariants as task
 use Rattle.bcv_tasks.specs.declared.put_answer.PutAnswer.{PutAnswer}
 use Rattle.bcv_tasks.specs.declared.put_answer.PutAnswer.TheVariants as answer
 use Rattle.bcv_tasks.specs.State.{Owns, brought, latest_of, names_of, publish_of, with_publish}
-use Rattle.bcv_tasks.specs.TaskPut.{Appends, AnswersPut, FitsAfterPut, IsPassed, IsStillLast, IsTurnedDown, PutLeaves, PutTakes, PutsKeepNames, TaskPuts, answer_of, number_after, with_published, with_refused}
+use Rattle.bcv_tasks.specs.TaskPut.{Appends, AnswersPut, FitsAfterPut, PutLeaves, PutTakes, PutsKeepNames, TaskPuts, answer_of, number_after}
 use Rattle.bcv_tasks.proofs.Owned.{latest_with, names_with, owned_stays, owns_with}
 
 -- ---- answers
@@ -75,6 +73,7 @@ pub record IsOver (t : PublishTask) (plan : EditPlan) (moment : ℕ) (read : Lat
   pub unmade : with_publish t (publish_of t) false ≡ t
   pub kept : latest_of t ≡ Some read
   pub brings : brought t moment ≡ Some (made (publish_of t) read plan moment)
+  pub order : Ascends db_name read.manifest.dbs
 
 pub leaves : (moment : ℕ) (t : PublishTask) (plan : EditPlan) (read : Latest) (e : PutEnd) (p : publish.State) → IsOver t plan moment read
     → publishing.PutLeaves plan moment (publish_of t) read e p → PutLeaves moment t (answer_of e) (with_publish t p (is_made e))
@@ -84,6 +83,7 @@ leaves moment t plan read (put.Published n) p over h = record {
   brings = over.brings;
   number = h.1;
   next = h.1 ∙ ap number_after (sym over.kept);
+  order = ascends_after plan (publish_of t).id read.manifest.dbs over.order;
   becomes = ap (λ (q : publish.State). with_publish t q true) h.2;
 }
 leaves moment t plan read put.Refused p over h = (

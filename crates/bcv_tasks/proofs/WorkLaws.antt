@@ -24,11 +24,9 @@ use Rattle.bcv_publish.specs.declared.work.Work.{Work}
 use Rattle.bcv_publish.specs.declared.work.Work.TheVariants as work
 use Rattle.bcv_publish.specs.BlockPut.{BlockFails, SoundBlockEnds, block_work}
 use Rattle.bcv_publish.specs.ManifestGet.{GetLeaves, SoundGetEnds}
-use Rattle.bcv_publish.specs.Request.{TakesOutcome, MayTakeOutcome}
 use Rattle.bcv_publish.specs.State as publish
 use Rattle.bcv_store.specs.StoreShown.{StoreTold, StoreShown}
 use Rattle.bcv_tasks.specs.declared.publish_task.PublishTask.TheVariants as task
-use Rattle.bcv_tasks.specs.State.{names_of}
 use Rattle.bcv_tasks.specs.TaskWork.{AnswersWork, ClockCause, HasNames, NamesCause, TaskWorks, WorkLeaves, WorkTakes}
 use Rattle.bcv_upload.specs.State as upload
 use Rattle.bcv_upload.specs.UploadWork as uploading

@@ -1,5 +1,5 @@
 -- What a client sees of a publishing task, whatever it publishes.
-use Rattle.std.specs.Prelude.{◌≡◌, ◌<◌, ℕ, Bool, true, false, List, [], ◌∷◌, length, Option, Some, None, is_none, if◌then◌else◌}
+use Rattle.std.specs.Prelude.{◌≡◌, ℕ, Bool, true, false, List, [], ◌∷◌, length, Option, Some, None, is_none, if◌then◌else◌}
 use Rattle.bcv_base.specs.declared.id.Id16.{Id16}
 use Rattle.bcv_base.specs.declared.log.Entry.{Entry}
 use Rattle.bcv_base.specs.declared.manifest.Manifest.{Manifest}
@@ -12,6 +12,8 @@ use Rattle.bcv_dbcopy.specs.State as copy
 use Rattle.bcv_dbcopy.specs.TaskWork as copying
 use Rattle.bcv_dbmap.specs.declared.plan.EditPlan.{EditPlan}
 use Rattle.bcv_dbmap.specs.Applied.{first_manifest}
+use Rattle.bcv_model.specs.declared.kept.PendingPub.{PendingPub}
+use Rattle.bcv_model.specs.declared.kept.Uploading.{Uploading}
 use Rattle.bcv_publish.specs.ManifestPut.{made}
 use Rattle.bcv_publish.specs.State as publish
 use Rattle.bcv_tasks.specs.declared.create_task.CreateTask.{CreateTask}
@@ -110,6 +112,20 @@ IsRunning (task.Create c) = IsCreate c
 IsRunning (task.Copy id s) = (id ≡ s.publish.id) × copy.IsRunning s
 IsRunning (task.Upload id s) = (id ≡ s.publish.id) × upload.IsRunning s
 IsRunning (task.Cleanup id s) = (id ≡ s.publish.id) × cleanup.IsRunning s
+
+-- ---- its intent
+
+-- of an upload that takes so many commits, what its intent notes: with the entry that it publishes
+abbrev pub uploading_of : ℕ → upload.State → Uploading
+uploading_of taken s = record { count = taken; block = s.base.block; entry = upload.entry_with s.base s.size s.touched s.ids s.publish.id }
+
+abbrev pub upload_of : ℕ → PublishTask → Option Uploading
+upload_of taken (task.Upload id s) = Some (uploading_of taken s)
+upload_of taken _ = None
+
+-- the publication that is pending once its intent is noted
+abbrev pub pending_of : ℕ → PublishTask → PendingPub
+pending_of taken t = record { id = id_of t; upload = upload_of taken t }
 
 -- ---- its names
 

@@ -11,6 +11,7 @@ use Rattle.bcv_base.specs.Faults.{Rose}
 use Rattle.bcv_base.specs.History.{history_of, last_of}
 use Rattle.bcv_base.specs.Ids.{has_id}
 use Rattle.bcv_base.specs.Image.{Writes}
+use Rattle.bcv_base.specs.ManifestRules.{Ascends, db_name}
 use Rattle.bcv_cleanup.specs.CleanupPut.{CleansAll}
 use Rattle.bcv_dbmap.specs.Applied.{first_manifest}
 use Rattle.bcv_dbmap.specs.Growth.{AreLawful}
@@ -63,13 +64,14 @@ abbrev pub IsCreating : PublishTask → Type 0
 IsCreating (task.Create c) = Unit {0}
 IsCreating _ = ⊥
 
--- what the put publishes: the manifest that it brings
+-- what the put publishes: the manifest that it brings, whose databases ascend by name
 pub record Publishes (moment : ℕ) (old : PublishTask) (n : ℕ) (new : PublishTask) : Type 0 where
   pub manifest : Manifest
   pub etag : ℕ
   pub brings : brought old moment ≡ Some manifest
   pub number : n ≡ manifest.number
   pub next : n ≡ number_after (latest_of old)
+  pub order : Ascends db_name manifest.dbs
   pub becomes : new ≡ with_published old (record { manifest = manifest; etag = etag })
 
 -- what a refused put leaves: the numbers that were read, with this one

@@ -9,6 +9,7 @@
 #![tactic(auto)]
 
 mod create_task;
+mod intent;
 mod laws;
 mod publish_task;
 mod put_answer;

@@ -1,4 +1,4 @@
-use Rattle.std.proofs.Common.{◌≡◌, ◌∙◌, sym, subst}
+use Rattle.std.proofs.Common.{◌∙◌, sym, subst}
 use Rattle.bcv_tasks.specs.declared.publish_task.PublishTask.TheVariants as task
 use Rattle.bcv_tasks.specs.declared.put_answer.PutAnswer.{PutAnswer}
 use Rattle.bcv_tasks.specs.TaskPut.{PutsTask}
@@ -10,7 +10,7 @@ pub returns-clause-puts : goal.returns-clause-puts
 returns-clause-puts g c =
     subst (λ (r : PutAnswer). PutsTask g.S.Store.told (g.S.Store.shown c.args.store.now) (g.S.Store.shown c.put-end.new.store) (task.Copy c.args.id c.args.copy.now) c.args.moment r (task.Copy c.args.id c.put-end.new.self))
     (sym c.of.ensures)
-    (copy_puts g.S.Store.told (g.S.Store.shown c.args.store.now) (g.S.Store.shown c.put-end.new.store) c.args.id c.args.copy.now c.put-end.new.self c.args.moment c.put-end.result c.requires.running
+    (copy_puts g.S.Store.told (g.S.Store.shown c.args.store.now) (g.S.Store.shown c.put-end.new.store) c.args.id c.args.copy.now c.put-end.new.self c.args.moment c.put-end.result c.requires.running c.requires.ready
     c.put-end.ensures.leaves c.put-end.ensures.puts c.put-end.ensures.sound)
 
 pub returns-clause-left : goal.returns-clause-left

@@ -1,4 +1,4 @@
-use Rattle.std.proofs.Common.{◌≡◌, ◌∙◌, Option, Some, Bor, sym, subst}
+use Rattle.std.proofs.Common.{Option, Bor, sym, subst}
 use Rattle.std.specs.Option.{option_copied}
 use Rattle.bcv_pages.specs.declared.page_set.PageSet.{PageSet}
 use Rattle.bcv_tasks.specs.declared.publish_task.PublishTask.{PublishTask}

@@ -1,0 +1,5 @@
+mod LedgerNoted
+mod NotesEnded
+mod Begun
+mod KnownAt
+mod Resolved

@@ -1,0 +1,3 @@
+pub mod LedgerNotes
+pub mod NoteEnds
+pub mod Begins

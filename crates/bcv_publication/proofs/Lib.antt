@@ -1,0 +1,3 @@
+pub mod PutExits
+mod PutMade
+pub mod TaskSides

@@ -1,0 +1,3 @@
+pub mod PutExits
+pub mod PutSides
+pub mod TaskSides
