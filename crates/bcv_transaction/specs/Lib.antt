@@ -1,0 +1,5 @@
+pub mod ListCalls
+pub mod MachineCalls
+pub mod Open
+pub mod OpenCalls
+pub mod PageCalls
