@@ -7,6 +7,7 @@ pub mod FullCache
 pub mod ListSteps
 pub mod MachineEnds
 pub mod MachineFrees
+pub mod MachineHolds
 pub mod MachineLists
 pub mod MachineLooks
 pub mod MachinePages

@@ -89,7 +89,7 @@ with_same n t (z ∷ ts) d found = elim (cases_Bool (is_numbered n z)) [
 
 -- ---- free
 
-held_no : (p : ℕ) (b z : Bool) → ((p == 0) || z) ≡ false → (nat_le 1 p && b) ≡ false → b ≡ false
+pub held_no : (p : ℕ) (b z : Bool) → ((p == 0) || z) ≡ false → (nat_le 1 p && b) ≡ false → b ≡ false
 held_no zero b z in_ none = absurd (cc)
 held_no (suc p) b z in_ none = ap (λ (a : Bool). a && b) (sym (le-leb 1 (suc p) (omega arith))) ∙ none
 
@@ -154,7 +154,7 @@ none_freed past sets ts s u n p is none =
     let at : machine_txn u n ≡ None = seen_at past sets n ts u is ∙ ap (option_map (seen past sets)) none in
     subst (λ (o : Option Txn). UnlessRefused (free_reason s.container p o) (with_up s u) reply.NoTxn now (LetsGo s u o p reply.NoTxn now)) (sym at) (refl, side_same past sets s u ts is)
 
-number_found : (n : ℕ) (ts : List OpenTxn) (t : OpenTxn) → txn_at n ts ≡ Some t → t.number ≡ n
+pub number_found : (n : ℕ) (ts : List OpenTxn) (t : OpenTxn) → txn_at n ts ≡ Some t → t.number ≡ n
 number_found n [] t found = absurd (cc)
 number_found n (z ∷ ts) t found = elim (cases_Bool (is_numbered n z)) [
   | inl b ↦ (let same : z ≡ t = (let some = rw b at found in cc) in subst (λ (w : OpenTxn). w.number ≡ n) same (eqb-true z.number n b))

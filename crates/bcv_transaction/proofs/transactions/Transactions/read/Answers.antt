@@ -7,7 +7,7 @@ use Rattle.bcv_transaction.specs.declared.open_txn.OpenTxn.{OpenTxn}
 use Rattle.bcv_transaction.specs.ListCalls.{ReadsIn}
 use Rattle.bcv_transaction.specs.MachineCalls.{Comes, side_with}
 use Rattle.bcv_transaction.specs.Open.{AreOpenIn, AreOpenWith, Open, txn_at}
-use Rattle.bcv_transaction.proofs.MachineReads.{all_reads, none_reads}
+use Rattle.bcv_transaction.proofs.MachineReads.{all_reads, none_comes}
 use Rattle.bcv_transaction.proofs.transactions.Transactions.read.Goals as goal
 use Rattle.bcv_transaction.proofs.transactions.Transactions.read.Goals.{in-Some, in-None}
 
@@ -28,7 +28,7 @@ returns-clause-machine c = λ past sets s u stands set_of. elim c.match-self.bra
   | in-None w ↦ (let o = c.args.self.now in
       let empty : c.self.inside.open.items ≡ [] = subst (λ (x : Option Blocks). AreOpenWith c.self.inside.slots x c.self.inside.open.items) w.in-None.is c.self.invariant in
       let none : o.txns ≡ [] = sym (ap (λ (x : Open). x.txns) c.self.view_is) ∙ empty in
-      let main = none_reads past sets o.txns s u c.args.number c.args.page stands.txns (subst (λ (xs : List OpenTxn). txn_at c.args.number xs ≡ None) (sym none) refl) in
+      let main = none_comes ToRead past sets o.txns s u c.args.number c.args.page stands.txns (subst (λ (xs : List OpenTxn). txn_at c.args.number xs ≡ None) (sym none) refl) in
       let items : c.match-self.self-inside.open.items ≡ o.txns = ap (λ x. x.open.items) w.self-inside-is ∙ ap (λ (x : Open). x.txns) c.self.view_is in
       subst (λ (r : Came). Comes ToRead s u c.args.number c.args.page r (side_with past sets s u c.match-self.self-inside.open.items)) (sym w.result-is)
       (subst (λ (xs : List OpenTxn). Comes ToRead s u c.args.number c.args.page came.NoTxn (side_with past sets s u xs)) (sym items) main))
