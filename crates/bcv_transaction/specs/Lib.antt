@@ -3,3 +3,5 @@ pub mod MachineCalls
 pub mod Open
 pub mod OpenCalls
 pub mod PageCalls
+pub mod StepCalls
+pub mod StepSides

@@ -1,8 +1,9 @@
 -- The open transactions of a client with their cache, and what holds of them.
-use Rattle.std.specs.Prelude.{◌≡◌, ℕ, ◌/◌, ◌^◌, ◌≤◌, Bool, min, nat_eq, not, List, [], ◌∷◌, length, map, filter, find, Option, Some, None, if◌then◌else◌}
+use Rattle.std.specs.Prelude.{◌≡◌, ℕ, ◌/◌, ◌^◌, ◌≤◌, Bool, min, nat_eq, ◌==◌, not, List, [], ◌∷◌, length, map, filter, find, option_map, Option, Some, None, if◌then◌else◌}
 use Rattle.std.specs.List.{AllByRecursion, IsDistinct, flat_map}
 use Rattle.bcv_base.specs.declared.seen.TxnBase.{TxnBase}
 use Rattle.bcv_cache.specs.Entry.{Blocks, Entry}
+use Rattle.bcv_databases.specs.Changes.{least_of}
 use Rattle.bcv_pages.specs.Held.{Held, CanView, view_of}
 use Rattle.bcv_base.specs.Image.{Writes}
 use Rattle.bcv_snapshot.specs.declared.held_block.HeldBlock.{HeldBlock}
@@ -40,6 +41,21 @@ without_txn n ts = filter (λ (t : OpenTxn). not (is_numbered n t)) ts
 -- the blocks that they hold together
 abbrev pub all_held : List OpenTxn → List HeldBlock
 all_held ts = flat_map (λ (t : OpenTxn). t.txn.held) ts
+
+-- ---- what is asked of the transactions
+
+-- the base that the transaction of a number reads from
+abbrev pub base_in : ℕ → List OpenTxn → Option TxnBase
+base_in n ts = option_map (λ (t : OpenTxn). t.txn.base) (txn_at n ts)
+
+-- the number of the set that it reads
+abbrev pub set_in : ℕ → List OpenTxn → Option ℕ
+set_in n ts = option_map (λ (t : OpenTxn). t.set) (txn_at n ts)
+
+-- the least number after which the commits of a transaction over a set begin
+abbrev pub oldest_in : ℕ → List OpenTxn → Option ℕ
+oldest_in set [] = None
+oldest_in set (t ∷ ts) = if t.set == set then least_of (Some t.txn.base.from) (oldest_in set ts) else oldest_in set ts
 
 -- ---- views
 

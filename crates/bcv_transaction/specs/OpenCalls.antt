@@ -12,9 +12,9 @@ use Rattle.bcv_transaction.specs.declared.answers.Begun.TheVariants as begun
 use Rattle.bcv_transaction.specs.declared.open_txn.OpenTxn.{OpenTxn}
 use Rattle.bcv_transaction.specs.Open.{Open, base_view, numbers_of}
 
--- a call over the cache; where it is not made nothing is open and nothing has changed
+-- a call over the cache, which keeps the slots that were given; where it is not made nothing is open and nothing has changed
 abbrev pub CacheCalls : Option Blocks → Option Blocks → Open → Open → Type 0 → (Blocks → Blocks → Type 0) → Type 0
-CacheCalls (Some c) (Some d) old new Refused Does = Does c d
+CacheCalls (Some c) (Some d) old new Refused Does = (new.slots ≡ old.slots) × Does c d
 CacheCalls (Some c) None old new Refused Does = ⊥
 CacheCalls None o old new Refused Does = Refused × (new ≡ old)
 

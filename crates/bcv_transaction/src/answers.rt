@@ -32,3 +32,20 @@ pub enum Freed {
     BadPage,
     NotHeld,
 }
+
+/// What a step that reads or holds a page answers: the page's bytes, of a read; that the page's block is held, of a hold; that
+/// the block cannot come in, since no slot is free and all entries are pinned; that the image has no such page; that no such
+/// transaction is open; that the store has no such block; that what it has there is of another length, `len` bytes; that the
+/// request failed; or out of memory.
+#[derive(Debug, Drop)]
+pub enum Stepped {
+    Page(Vec<u8>),
+    Held,
+    CacheFull,
+    BadPage,
+    NoTxn,
+    Gone,
+    BadBlock { len: u64 },
+    StoreFault,
+    NoMemory,
+}

@@ -12,8 +12,8 @@ mod answers;
 mod numbers;
 mod open_txn;
 mod page;
-mod txn_list;
 mod transactions;
+mod txn_list;
 
-pub use answers::{Begun, Came, Freed};
+pub use answers::{Begun, Came, Freed, Stepped};
 pub use transactions::Transactions;
