@@ -5,3 +5,4 @@ pub mod OpenCalls
 pub mod PageCalls
 pub mod StepCalls
 pub mod StepSides
+pub mod UploadCalls

@@ -1,5 +1,6 @@
 //! The open transactions with their cache, and the calls.
-ghost use Rattle.std.specs.Prelude.{◌≡◌, ℕ, ◌≤◌, [], List, None, IfSome, false, true};
+ghost use Rattle.std.specs.Prelude.{◌≡◌, ℕ, ◌≤◌, [], List, None, Some, IfSome, false, length, nat_le, true};
+ghost use Rattle.std.specs.Option.{option_copied};
 ghost use Rattle.bcv_base.specs.History.{Item};
 ghost use Rattle.bcv_base.specs.ManifestRules.{MeetsEntryRules, is_block_size};
 ghost use Rattle.bcv_cache.specs.Cache.{has_room, slot_of};
@@ -19,17 +20,24 @@ ghost use Rattle.bcv_transaction.specs.MachineCalls.{
   StandsFor,
   side_with,
 };
-ghost use Rattle.bcv_transaction.specs.Open.{AreOpen, CanRead, txn_at};
+ghost use Rattle.bcv_transaction.specs.Open.{AreOpen, CanRead, base_in, oldest_in, set_in, txn_at};
+ghost use Rattle.bcv_transaction.specs.UploadCalls.{Uploads};
+ghost use Rattle.bcv_upload.specs.State.{HoldsView, IsRunning, is_ready, view_in};
 
 use crate::answers::{Begun, Came, Freed};
 use crate::numbers::{MOST_TXNS, least_free};
 use crate::open_txn::OpenTxn;
-use crate::txn_list::{end_every, end_in, fetch_in, free_in, hold_in, look_in, push_txn, read_in};
-use bcv_base::{Id16, TxnBase};
+use crate::txn_list::{
+    base_of, end_every, end_in, fetch_in, free_in, hold_in, look_in, oldest_of, push_txn, read_in, set_of,
+    upload_in,
+};
+use bcv_base::{Id16, Names, Seen, TxnBase};
 use bcv_cache::BlockCache;
 use bcv_pages::PageSet;
+use bcv_publish::Work;
 use bcv_snapshot::{Fetched, Look, Txn};
 use bcv_store::Store;
+use bcv_upload::Upload;
 use std::alloc::{AllocError, Global};
 use std::marker::Model;
 
@@ -74,6 +82,34 @@ impl Transactions {
         }
         self.cache = Some(BlockCache::new(alloc, self.slots, block)?);
         Ok(())
+    }
+
+    /// Whether 64 transactions are open, so that none can begin.
+    pub fn is_full(&self) -> bool
+        ensures { result ≡ nat_le 64 (length self.now.txns) }
+    {
+        self.open.len() >= MOST_TXNS
+    }
+
+    /// What a transaction reads from, or `None` where it is not open.
+    pub fn opened(&self, number: u8) -> Option<&TxnBase>
+        ensures { option_copied result ≡ base_in number self.now.txns }
+    {
+        base_of(&self.open, number)
+    }
+
+    /// The number of the set that a transaction reads, or `None` where it is not open.
+    pub fn set_of(&self, number: u8) -> Option<u32>
+        ensures { result ≡ set_in number self.now.txns }
+    {
+        set_of(&self.open, number)
+    }
+
+    /// The least number after which the commits of a transaction over a set begin, or `None` where none is over the set.
+    pub fn oldest(&self, set: u32) -> Option<u64>
+        ensures { result ≡ oldest_in set self.now.txns }
+    {
+        oldest_of(&self.open, set)
     }
 
     /// Begins a transaction over a base whose commits are in `pages`, the set of the number `set`. It holds no block.
@@ -153,10 +189,47 @@ impl Transactions {
             (λ c d. BlockFetches (slot_of id c.entries) (has_room c) S.told (S.shown store.old) (S.shown store.new) id c result d) }
         ensures same { self.new.txns ≡ self.old.txns }
         ensures are_open { AreOpen self.new }
+        ensures reached { S.reaches store.old store.new }
     {
         match &mut self.cache {
             Some(cache) => fetch_in(alloc, store, &self.open, cache, id, block),
             None => Fetched::CacheFull,
+        }
+    }
+
+    /// Makes the next request of an upload, which is not ready, over the cache, which is made where it is not there. See
+    /// [`Upload::work`].
+    pub fn upload<S: Store, N: Names>(
+        &mut self,
+        alloc: Global,
+        store: &mut S,
+        names: &mut N,
+        task: &mut Upload,
+        seen: &Seen,
+        pages: &PageSet,
+    ) -> Work
+        requires running { IsRunning task.old }
+        requires not_ready { is_ready task.old ≡ false }
+        requires view { HoldsView pages.now task.old }
+        requires seen { seen.now.block ≡ Some task.old.base.block }
+        requires same_block { IfSome self.old.cache (λ c. c.block ≡ task.old.base.block) }
+        ensures uploads { Uploads S.told seen.now (view_in pages.now task.old.base) self.old
+            (record { store = S.shown store.old; names = N.shown names.old; upload = task.old }) result self.new
+            (record { store = S.shown store.new; names = N.shown names.new; upload = task.new }) }
+        ensures are_open { AreOpen self.new }
+        ensures running { IsRunning task.new }
+        ensures reached { S.reaches store.old store.new }
+    {
+        let block = match seen.block {
+            Some(block) => block,
+            None => unreachable!(),
+        };
+        if self.open_cache(alloc, block).is_err() {
+            return Work::NoMemory;
+        }
+        match &mut self.cache {
+            Some(cache) => upload_in(alloc, store, names, task, seen, pages, &self.open, cache),
+            None => unreachable!(),
         }
     }
 
