@@ -28,21 +28,22 @@ record Fetches (hs : List HeldBlock) (c d : Blocks) : Type 0 where
 same : (hs : List HeldBlock) (c d : Blocks) → HasNoOthers hs c.entries → d ≡ c → Fetches hs c d
 same hs c d all is = record { size = same_size c d is; counts = subst (λ (z : Blocks). HasNoOthers hs z.entries) (sym is) all }
 
-fewer : (hs : List HeldBlock) (c : Blocks) → HasNoOthers hs c.entries → HasNoOthers hs (room_made c)
-fewer hs c all = by (has_free_slot c)
+-- what holds of each entry holds of those that stay where one more comes
+pub all_room_made : (P : Entry → Type 0) (c : Blocks) → AllByRecursion P c.entries → AllByRecursion P (room_made c)
+all_room_made P c all = by (has_free_slot c)
   where
-    dropped : (o : Option Entry) → HasNoOthers hs (option_map_or (λ (e : Entry). without (has_id e.id) c.entries) o c.entries)
+    dropped : (o : Option Entry) → AllByRecursion P (option_map_or (λ (e : Entry). without (has_id e.id) c.entries) o c.entries)
     dropped None = all
-    dropped (Some e) = all_without (λ (x : Entry). x.count ≤ pins_in x.slot hs) (has_id e.id) c.entries all
+    dropped (Some e) = all_without P (has_id e.id) c.entries all
 
-    by : (b : Bool) → HasNoOthers hs (cond b c.entries (last_unpinned_dropped c.entries))
+    by : (b : Bool) → AllByRecursion P (cond b c.entries (last_unpinned_dropped c.entries))
     by true = all
     by false = dropped (last_unpinned c.entries)
 
 left : (hs : List HeldBlock) (id : Id16) (c d : Blocks) (r : Fetched) → HasNoOthers hs c.entries → FetchLeaves id c r d → Fetches hs c d
 left hs id c d (fetched.In slot) all leaves = record {
   size = record { most = ap (λ (z : Blocks). z.most) leaves.2; block = ap (λ (z : Blocks). z.block) leaves.2 };
-  counts = subst (λ (z : Blocks). HasNoOthers hs z.entries) (sym leaves.2) (omega arith, fewer hs c all);
+  counts = subst (λ (z : Blocks). HasNoOthers hs z.entries) (sym leaves.2) (omega arith, all_room_made (λ (e : Entry). e.count ≤ pins_in e.slot hs) c all);
 }
 left hs id c d fetched.CacheFull all leaves = absurd leaves
 left hs id c d fetched.Gone all leaves = same hs c d all leaves

@@ -17,3 +17,6 @@ pub mod PageSlots
 pub mod PinCounts
 pub mod TxnNumbers
 pub mod TxnPlaces
+pub mod UploadedCache
+pub mod StepPlaces
+pub mod StepSides

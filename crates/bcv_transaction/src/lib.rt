@@ -12,6 +12,7 @@ mod answers;
 mod numbers;
 mod open_txn;
 mod page;
+mod steps;
 mod transactions;
 mod txn_list;
 

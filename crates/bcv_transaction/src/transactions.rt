@@ -86,7 +86,8 @@ impl Transactions {
 
     /// Whether 64 transactions are open, so that none can begin.
     pub fn is_full(&self) -> bool
-        ensures { result ≡ nat_le 64 (length self.now.txns) }
+        ensures full { result ≡ nat_le 64 (length self.now.txns) }
+        ensures are_open { AreOpen self.now }
     {
         self.open.len() >= MOST_TXNS
     }
@@ -199,6 +200,7 @@ impl Transactions {
 
     /// Makes the next request of an upload, which is not ready, over the cache, which is made where it is not there. See
     /// [`Upload::work`].
+    #[tactic(none)]
     pub fn upload<S: Store, N: Names>(
         &mut self,
         alloc: Global,
