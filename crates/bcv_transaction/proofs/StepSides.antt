@@ -12,7 +12,7 @@ use Rattle.bcv_base.specs.Faults.{Rose}
 use Rattle.bcv_base.specs.History.{Item, first_put, history_of}
 use Rattle.bcv_base.specs.Ids.{has_id}
 use Rattle.bcv_base.specs.ManifestRules.{lists}
-use Rattle.bcv_cache.specs.Cache.{filled}
+use Rattle.bcv_cache.specs.Cache.{filled, has_room, slot_of}
 use Rattle.bcv_cache.specs.Entry.{Blocks, Entry}
 use Rattle.bcv_clientstate.specs.Fits.{FitsEntry, FitsTxn}
 use Rattle.bcv_clientstate.specs.SeenContainer.{container_of}
@@ -31,7 +31,7 @@ use Rattle.bcv_pages.specs.Held.{Held}
 use Rattle.bcv_publish.specs.Request.{MayTakeOutcome, OverSoundLog, TakesOutcome}
 use Rattle.bcv_snapshot.specs.declared.fetched.Fetched.{Fetched}
 use Rattle.bcv_snapshot.specs.declared.fetched.Fetched.TheVariants as fetched
-use Rattle.bcv_snapshot.specs.BlockFetch.{BlockGetSound, BlockGets, IsMissing, IsOtherBlock}
+use Rattle.bcv_snapshot.specs.BlockFetch.{BlockFetches, BlockGetSound, BlockGets, IsMissing, IsOtherBlock}
 use Rattle.bcv_store.specs.Plans.{IsForeign}
 use Rattle.bcv_store.specs.StoreShown.{StoreShown, StoreTold}
 use Rattle.bcv_transaction.specs.declared.answers.Came.{Came}
@@ -41,12 +41,13 @@ use Rattle.bcv_transaction.specs.declared.answers.Stepped.TheVariants as stepped
 use Rattle.bcv_transaction.specs.declared.open_txn.OpenTxn.{OpenTxn}
 use Rattle.bcv_transaction.specs.MachineCalls.{Comes, IsSetOf, StandsFor, WantsTask, open_part, seen_txns, side_with}
 use Rattle.bcv_transaction.specs.Open.{AreOpen, AreOpenWith, Open, is_numbered, txn_at}
+use Rattle.bcv_transaction.specs.OpenCalls.{CallsIn}
 use Rattle.bcv_transaction.specs.StepCalls.{Brings, ComesAs, GoesAfter, GoesOn, IsAgain, OthersGrow, PageCalls, StepSays, StepTakes, Steps, Wants, kept_out}
 use Rattle.bcv_transaction.specs.StepSides.{HasContainer, StepSound, StepsAs, StepsSides}
 use Rattle.bcv_transaction.proofs.FetchMoves.{all_room_made}
 use Rattle.bcv_transaction.proofs.MachineLists.{seen, seen_at}
 use Rattle.bcv_transaction.proofs.MachinePages.{one_of}
-use Rattle.bcv_transaction.proofs.StepPlaces.{Gets, IsAway, gets_of}
+use Rattle.bcv_transaction.proofs.StepPlaces.{Gets, IsAway, brings, comes_again, gets_of, here, wants}
 use Rattle.bcv_dbmap.proofs.Entries.{lists_among}
 use Rattle.bcv_upload.proofs.Owned.{has_at}
 
@@ -419,21 +420,15 @@ module _ (access : Access) (store : StoreTold) (old new : StoreShown) (pages : H
 
 -- ---- the answers of the private calls
 
--- the block that is wanted
-pub absent_asked : (access : Access) (pages : Held) (o asked : Open) (n p : ℕ) (c : Came) (id : Id16) (w : Result Id16 Stepped) → Wants c w → w ≡ Ok id → IsAsked access pages o n p c asked
-    → IsAsked access pages o n p (came.Absent id) asked
-absent_asked access pages o asked n p c id w wants is a =
-    let absent : c ≡ came.Absent id = subst (Wants c) is wants in subst (λ (x : Came). IsAsked access pages o n p x asked) absent a
-
 pub comes_as : (c : Came) (r : Stepped) (w : Result Id16 Stepped) → Wants c w → w ≡ Err r → ComesAs c r
 comes_as c r w wants is = subst (Wants c) is wants
 
 -- a fetch that keeps nothing out brought the block in
-pub record IsIn (f : Fetched) : Type 0 where
-  pub slot : ℕ
-  pub is : f ≡ fetched.In slot
+record IsIn (f : Fetched) : Type 0 where
+  slot : ℕ
+  is : f ≡ fetched.In slot
 
-pub came_in : (f : Fetched) (o : Option Stepped) → o ≡ kept_out f → o ≡ None → IsIn f
+came_in : (f : Fetched) (o : Option Stepped) → o ≡ kept_out f → o ≡ None → IsIn f
 came_in f o is none = by f (sym is ∙ none)
   where
     by : (x : Fetched) → kept_out x ≡ None → IsIn x
@@ -443,3 +438,47 @@ came_in f o is none = by f (sym is ∙ none)
     by (fetched.BadBlock len) out = absurd (cc)
     by fetched.StoreFault out = absurd (cc)
     by fetched.NoMemory out = absurd (cc)
+
+-- the page is asked for, and its block is wanted
+pub record IsWanted (access : Access) (pages : Held) (o asked : Open) (n p : ℕ) (id : Id16) : Type 0 where
+  pub first : IsAsked access pages o n p (came.Absent id) asked
+  pub opened : AreOpen o
+  pub away : IsAway pages o n p id asked
+
+pub wanted : (access : Access) (pages : Held) (o asked : Open) (n p : ℕ) (c : Came) (id : Id16) (w : Result Id16 Stepped) → Wants c w → w ≡ Ok id → IsAsked access pages o n p c asked → AreOpen o → IsWanted access pages o asked n p id
+wanted access pages o asked n p c id w wants_it is a opened =
+    let absent : c ≡ came.Absent id = subst (Wants c) is wants_it in
+    let first : IsAsked access pages o n p (came.Absent id) asked = subst (λ (x : Came). IsAsked access pages o n p x asked) absent a in
+    record { first = first; opened = opened; away = wants access pages o asked n p id opened first.calls }
+
+-- a fetch of the block
+pub record IsFetched (store : StoreTold) (old new : StoreShown) (id : Id16) (asked : Open) (f : Fetched) (got : Open) : Type 0 where
+  pub fetches : CallsIn asked got (f ≡ fetched.CacheFull) (λ c d. BlockFetches (slot_of id c.entries) (has_room c) store old new id c f d)
+  pub same : got.txns ≡ asked.txns
+
+module _ (access : Access) (store : StoreTold) (old new : StoreShown) (pages : Held) (o asked : Open) (n p : ℕ) (id : Id16) (f : Fetched) (got : Open) where
+  brought : IsWanted access pages o asked n p id → IsFetched store old new id asked f got → Brings store old new id asked f got
+  brought w is = brings store old new pages n p id o asked f got w.away is.fetches is.same
+
+  pub kept : (r : Stepped) (k : Option Stepped) → k ≡ kept_out f → k ≡ Some r → IsWanted access pages o asked n p id → IsFetched store old new id asked f got → StepIs access store old new pages o n p r got
+  kept r k out is w got_is = kept_is access store old new pages o asked n p id got f r (sym out ∙ is) w.first w.opened w.away (brought w got_is)
+
+  -- the block came in
+  into : (k : Option Stepped) (out : k ≡ kept_out f) (none : k ≡ None) → IsWanted access pages o asked n p id → IsFetched store old new id asked f got
+      → Brings store old new id asked (fetched.In (came_in f k out none).slot) got
+  into k out none w got_is = subst (λ (x : Fetched). Brings store old new id asked x got) (came_in f k out none).is (brought w got_is)
+
+  pub still_open : (P : OpenTxn → Type 0) → IsWanted access pages o asked n p id → IsFetched store old new id asked f got → IfSome (txn_at n o.txns) P → IfSome (txn_at n got.txns) P
+  still_open P w got_is can = subst (λ (ts : List OpenTxn). IfSome (txn_at n ts) P) (sym (got_is.same ∙ ap (λ (x : Open). x.txns) w.away.same)) can
+
+  pub here_again : (k : Option Stepped) → k ≡ kept_out f → k ≡ None → IsWanted access pages o asked n p id → IsFetched store old new id asked f got → (c : Came) (last : Open) → PageCalls access pages got n p c last → IsAgain c
+  here_again k out none w got_is c last calls =
+      let slot : ℕ = (came_in f k out none).slot in
+      comes_again access pages got last n p c
+      (here store old new pages n p slot id o asked got w.away (gets_of store old new id asked (fetched.In slot) got (into k out none w got_is))) calls
+
+  pub comes : (k : Option Stepped) → k ≡ kept_out f → k ≡ None → IsWanted access pages o asked n p id → IsFetched store old new id asked f got → (c : Came) (r : Stepped) (last : Open) → IsAsked access pages got n p c last
+      → ComesAs c r → StepIs access store old new pages o n p r last
+  comes k out none w got_is c r last second is =
+      again_is access store old new pages o asked n p id got (came_in f k out none).slot c r last w.first w.opened w.away (into k out none w got_is) second
+      (here_again k out none w got_is c last second.calls) is

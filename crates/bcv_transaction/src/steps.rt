@@ -17,7 +17,6 @@ use std::alloc::Global;
 impl Transactions {
     /// Reads a page, whose block of `block` bytes is brought into the cache by one get where it is not there. A block that
     /// came in meanwhile is found without a request.
-    #[tactic(none)]
     pub fn read_step<S: Store>(
         &mut self,
         alloc: Global,
@@ -49,7 +48,6 @@ impl Transactions {
 
     /// Holds the block of a page, of `block` bytes, which is brought into the cache by one get where it is not there. A block
     /// that came in meanwhile is found without a request.
-    #[tactic(none)]
     pub fn hold_step<S: Store>(
         &mut self,
         alloc: Global,
