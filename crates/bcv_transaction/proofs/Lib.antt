@@ -20,3 +20,4 @@ pub mod TxnPlaces
 pub mod UploadedCache
 pub mod StepPlaces
 pub mod StepSides
+pub mod Uploads

@@ -200,7 +200,6 @@ impl Transactions {
 
     /// Makes the next request of an upload, which is not ready, over the cache, which is made where it is not there. See
     /// [`Upload::work`].
-    #[tactic(none)]
     pub fn upload<S: Store, N: Names>(
         &mut self,
         alloc: Global,
