@@ -3,6 +3,7 @@ pub mod CacheMade
 pub mod CachedHeld
 pub mod FetchMoves
 pub mod FewPins
+pub mod FitLaws
 pub mod FullCache
 pub mod ListSteps
 pub mod MachineEnds
@@ -15,9 +16,9 @@ pub mod MachineReads
 pub mod OpenMoves
 pub mod PageSlots
 pub mod PinCounts
+pub mod StepPlaces
+pub mod StepSides
 pub mod TxnNumbers
 pub mod TxnPlaces
 pub mod UploadedCache
-pub mod StepPlaces
-pub mod StepSides
 pub mod Uploads

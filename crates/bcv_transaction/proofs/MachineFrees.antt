@@ -174,6 +174,6 @@ all_frees past sets o s u c d n p r us cache opened stands frees = by (txn_at n 
         let some = subst (λ (x : Option OpenTxn). FreesOf c x o.txns n p r us d) found frees in
         let block : s.container.block ≡ c.block = subst (λ (x : Option Blocks). IfSome x (λ (y : Blocks). s.container.block ≡ y.block)) cache stands.block in
         let own : t.txn.base.block ≡ c.block = one_of (λ (x : OpenTxn). x.txn.base.block ≡ c.block) (is_numbered n) o.txns t opened.blocks found in
-        let fits : FitsTxn past (open_part sets t) = one_of (λ (x : OpenTxn). FitsTxn past (open_part sets x)) (is_numbered n) o.txns t stands.fits found in
+        let fits : FitsTxn past (open_part sets t) = one_of (λ (x : OpenTxn). FitsTxn past (open_part sets x)) (is_numbered n) o.txns t stands.fit.txns found in
         subst (λ (xs : List OpenTxn). FreesAs s u n p r (side_with past sets s u xs)) (sym some.2)
         (frees_so past sets t c d s u n p o.txns r some.0 (seen_at past sets n o.txns u stands.txns ∙ ap (option_map (seen past sets)) found) stands.txns opened.differ found (number_found n o.txns t found) (block ∙ sym own) fits some.1)

@@ -167,7 +167,7 @@ all_holds past sets o s u c d n p pages r us cache opened stands set_of holds_it
         let some = subst (λ (y : Option OpenTxn). HoldsOf pages c y o.txns n p r us d) found holds_it in
         let same : sets t.set ≡ pages = subst (λ (y : Option OpenTxn). IfSome y (λ (z : OpenTxn). sets z.set ≡ pages)) found set_of in
         let own : t.txn.base.block ≡ c.block = one_of (λ (y : OpenTxn). y.txn.base.block ≡ c.block) (is_numbered n) o.txns t opened.0.blocks found in
-        let fits : FitsTxn past (open_part sets t) = one_of (λ (y : OpenTxn). FitsTxn past (open_part sets y)) (is_numbered n) o.txns t stands.fits found in
+        let fits : FitsTxn past (open_part sets t) = one_of (λ (y : OpenTxn). FitsTxn past (open_part sets y)) (is_numbered n) o.txns t stands.fit.txns found in
         let pins : HasPins t.txn.held c.entries = pins_of_one o.txns n t c.entries found opened.0.pins in
         let i : IsSeenAt past sets o.txns s u n t =
         record { there = seen_at past sets n o.txns u stands.txns ∙ ap (option_map (seen past sets)) found; all = stands.txns; differ = opened.0.differ; found = found; number = number_found n o.txns t found; block = block ∙ sym own }

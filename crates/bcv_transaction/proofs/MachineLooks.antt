@@ -131,8 +131,8 @@ all_looks past sets o s u c n p pages r cache opened stands set_of can looks = b
         let shows : TxnLooks t.txn (view_in pages t) c p r = subst (λ (x : Option OpenTxn). LooksOf pages c x p r) found looks in
         let block : s.container.block ≡ c.block = subst (λ (x : Option Blocks). IfSome x (λ (y : Blocks). s.container.block ≡ y.block)) cache stands.block in
         let own : t.txn.base.block ≡ c.block = one_of (λ (x : OpenTxn). x.txn.base.block ≡ c.block) (is_numbered n) o.txns t in_.0.blocks found in
-        let cached : AllByRecursion (FitsEntry past) c.entries = subst (λ (x : Option Blocks). IfSome x (λ (y : Blocks). AllByRecursion (FitsEntry past) y.entries)) cache stands.cached in
-        let fits : FitsTxn past (open_part sets t) = one_of (λ (x : OpenTxn). FitsTxn past (open_part sets x)) (is_numbered n) o.txns t stands.fits found in
+        let cached : AllByRecursion (FitsEntry past) c.entries = subst (λ (x : Option Blocks). IfSome x (λ (y : Blocks). AllByRecursion (FitsEntry past) y.entries)) cache stands.fit.cached in
+        let fits : FitsTxn past (open_part sets t) = one_of (λ (x : OpenTxn). FitsTxn past (open_part sets x)) (is_numbered n) o.txns t stands.fit.txns found in
         looks_so past sets t c s u n p (side_with past sets s u o.txns) r (seen_at past sets n o.txns u stands.txns ∙ ap (option_map (seen past sets)) found) (side_same past sets s u o.txns stands.txns)
         (block ∙ sym own) stands.sound fits (subst (λ (h : Held). CanRead h t) (sym same) readable) cached (pins_of_one o.txns n t c.entries found in_.0.pins)
         (subst (λ (h : Held). TxnLooks t.txn (view_in h t) c p r) (sym same) shows)

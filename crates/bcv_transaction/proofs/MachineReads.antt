@@ -168,8 +168,8 @@ all_reads past sets o s u c d n p pages r cache opened after size stands set_of 
         let readable : CanRead pages t = subst (λ (x : Option OpenTxn). IfSome x (CanRead pages)) found can in
         let said = subst (λ (h : Held). ReadsPage t.txn (view_in h t) c p r d) (sym same) (subst (λ (x : Option OpenTxn). ReadsOf pages c x p r d) found reads) in
         let own : t.txn.base.block ≡ c.block = one_of (λ (x : OpenTxn). x.txn.base.block ≡ c.block) (is_numbered n) o.txns t opened.0.blocks found in
-        let cached : AllByRecursion (FitsEntry past) c.entries = subst (λ (x : Option Blocks). IfSome x (λ (y : Blocks). AllByRecursion (FitsEntry past) y.entries)) cache stands.cached in
-        let fits : FitsTxn past (open_part sets t) = one_of (λ (x : OpenTxn). FitsTxn past (open_part sets x)) (is_numbered n) o.txns t stands.fits found in
+        let cached : AllByRecursion (FitsEntry past) c.entries = subst (λ (x : Option Blocks). IfSome x (λ (y : Blocks). AllByRecursion (FitsEntry past) y.entries)) cache stands.fit.cached in
+        let fits : FitsTxn past (open_part sets t) = one_of (λ (x : OpenTxn). FitsTxn past (open_part sets x)) (is_numbered n) o.txns t stands.fit.txns found in
         let pins : HasPins t.txn.held c.entries = pins_of_one o.txns n t c.entries found opened.0.pins in
         let a : Moment = record { pages = sets t.set; cache = c; past = past } in
         let first : AllByRecursion (HasFirst past t.txn.base) c.entries = all_imply (FitsEntry past) (HasFirst past t.txn.base) (λ e is has. is) c.entries cached in

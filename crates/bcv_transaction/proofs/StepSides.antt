@@ -220,7 +220,7 @@ away_for past sets pages o asked s u n p id a stands wants =
       there = there;
       away = subst (λ (x : Txn). is_at_hand s.container x p ≡ false) (same_Some wants.txn (seen past sets a.txn) (sym wants.is_open ∙ there)) wants.away;
       same = ap (λ (x : Open). side_with past sets s u x.txns) (sym a.same) ∙ wants.same;
-      fits = one_of (λ (x : OpenTxn). FitsTxn past (open_part sets x)) (is_numbered n) o.txns a.txn stands.fits a.found;
+      fits = one_of (λ (x : OpenTxn). FitsTxn past (open_part sets x)) (is_numbered n) o.txns a.txn stands.fit.txns a.found;
       listed = has_at a.txn.txn.base.entry.blocks _ id a.block;
     }
 
@@ -379,7 +379,7 @@ module _ (access : Access) (store : StoreTold) (old new : StoreShown) (pages : H
       let txns : got.txns ≡ o.txns = txns_are (fetched.In slot) w g in
       let was : g.before ≡ w.away.cache = cache_was (fetched.In slot) w g in
       let cached : AllByRecursion (FitsEntry past) g.before.entries =
-      subst (λ (c : Blocks). AllByRecursion (FitsEntry past) c.entries) (sym was) (subst (λ (x : Option Blocks). IfSome x (λ (c : Blocks). AllByRecursion (FitsEntry past) c.entries)) w.away.cache_is stands.cached)
+      subst (λ (c : Blocks). AllByRecursion (FitsEntry past) c.entries) (sym was) (subst (λ (x : Option Blocks). IfSome x (λ (c : Blocks). AllByRecursion (FitsEntry past) c.entries)) w.away.cache_is stands.fit.cached)
       in
       let block : s.container.block ≡ g.before.block =
       subst (λ (c : Blocks). s.container.block ≡ c.block) (sym was) (subst (λ (x : Option Blocks). IfSome x (λ (c : Blocks). s.container.block ≡ c.block)) w.away.cache_is stands.block)
@@ -389,8 +389,10 @@ module _ (access : Access) (store : StoreTold) (old new : StoreShown) (pages : H
       in
       record {
         sound = stands.sound;
-        fits = subst (λ (ts : List OpenTxn). AllByRecursion (λ (t : OpenTxn). FitsTxn past (open_part sets t)) ts) (sym txns) stands.fits;
-        cached = subst (λ (x : Option Blocks). IfSome x (λ (c : Blocks). AllByRecursion (FitsEntry past) c.entries)) (sym g.after_is) then_;
+        fit = record {
+          txns = subst (λ (ts : List OpenTxn). AllByRecursion (λ (t : OpenTxn). FitsTxn past (open_part sets t)) ts) (sym txns) stands.fit.txns;
+          cached = subst (λ (x : Option Blocks). IfSome x (λ (c : Blocks). AllByRecursion (FitsEntry past) c.entries)) (sym g.after_is) then_;
+        };
         txns = stands.txns ∙ ap (seen_txns past sets) (sym txns);
         block = subst (λ (x : Option Blocks). IfSome x (λ (c : Blocks). s.container.block ≡ c.block)) (sym g.after_is) (block ∙ ap (λ (c : Blocks). c.block) (sym filled_is));
         slots = stands.slots ∙ ap (λ (x : Open). x.slots) (sym w.away.same) ∙ sym g.slots;

@@ -81,6 +81,13 @@ is_at n ts at x e read d =
     let first = first_at (is_numbered n) ts at e in
     split_at n ts at x (slice_get_read ts (length ts) at x refl first.1 read) first.0 d
 
+-- the same, by the number alone
+pub read_at : (n : ℕ) (ts : List OpenTxn) (o : Option ℕ) (at : ℕ) (r : OpenTxn) → o ≡ position (is_numbered n) ts → o ≡ Some at → r ≡ get_or ts at r → txn_at n ts ≡ Some (get_or ts at r)
+read_at n ts o at r place some read =
+    let first = first_at (is_numbered n) ts at (sym place ∙ some) in
+    find_at (is_numbered n) ts ∙ ap (slice_get ts) first.0
+    ∙ slice_get_read ts (length ts) at (get_or ts at r) refl first.1 (subst (λ (y : OpenTxn). y ≡ get_or ts at y) read read)
+
 none_first : (test : OpenTxn → Bool) (ts : List OpenTxn) → position test ts ≡ None → length ts ≤ position_or_len test ts
 none_first test ts e = grind (arith, common_steps)
 

@@ -1,3 +1,4 @@
+pub mod FitLaws
 pub mod ListCalls
 pub mod MachineCalls
 pub mod Open

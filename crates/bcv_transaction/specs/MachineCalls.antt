@@ -39,12 +39,16 @@ seen_txns past sets ts = map (λ (t : OpenTxn). seen_txn past (open_part sets t)
 abbrev pub IsSetOf : Held → (ℕ → Held) → ℕ → List OpenTxn → Type 0
 IsSetOf pages sets n ts = IfSome (txn_at n ts) (λ (t : OpenTxn). sets t.set ≡ pages)
 
--- the machine's client has these transactions over a sound log that they fit, the cached entries have the first bytes put
--- under their ids, and the block size and the slots are those of the cache
+-- the transactions fit a log, and each cached block has the bytes first put under its id
+pub record AreFit (past : List Item) (sets : ℕ → Held) (o : Open) : Type 0 where
+  pub txns : AllByRecursion (λ (t : OpenTxn). FitsTxn past (open_part sets t)) o.txns
+  pub cached : IfSome o.cache (λ (c : Blocks). AllByRecursion (FitsEntry past) c.entries)
+
+-- the machine's client has these transactions over a sound log that they fit, and the block size and the slots are those of
+-- the cache
 pub record StandsFor (past : List Item) (sets : ℕ → Held) (o : Open) (s : Side) (u : Up) : Type 0 where
   pub sound : Sound past
-  pub fits : AllByRecursion (λ (t : OpenTxn). FitsTxn past (open_part sets t)) o.txns
-  pub cached : IfSome o.cache (λ (c : Blocks). AllByRecursion (FitsEntry past) c.entries)
+  pub fit : AreFit past sets o
   pub txns : u.txns ≡ seen_txns past sets o.txns
   pub block : IfSome o.cache (λ (c : Blocks). s.container.block ≡ c.block)
   pub slots : s.client.slots ≡ o.slots

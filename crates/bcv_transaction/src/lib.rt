@@ -9,6 +9,7 @@
 #![tactic(auto)]
 
 mod answers;
+mod laws;
 mod numbers;
 mod open_txn;
 mod page;
@@ -17,4 +18,5 @@ mod transactions;
 mod txn_list;
 
 pub use answers::{Begun, Came, Freed, Stepped};
+pub use laws::calls_keep_fits;
 pub use transactions::Transactions;
