@@ -491,3 +491,11 @@ first_at past i bytes (e ∷ es) all is = elim (cases_Bool (has_id i e)) [
 
 pub cached_are_first : CachedAreFirst
 cached_are_first past sets o fit = some_kept (AllFit past) (λ (c : Blocks). AreFirstPuts past c.entries) (λ (c : Blocks) all. λ i bytes is. first_at past i bytes c.entries all is) o.cache fit.cached
+
+-- over equal stores and transactions
+pub leaves_fit_by : (store : StoreTold) (old new now : StoreShown) (o n m : Open) → now ≡ new → m ≡ n → OverSoundLog store old new (λ mine. LeavesFit old new o n) → OverSoundLog store old now (λ mine. LeavesFit old now o m)
+leaves_fit_by store old new now o n m shown same fact =
+    subst (λ (x : Open). OverSoundLog store old now (λ mine. LeavesFit old now o x)) (sym same) (subst (λ (s : StoreShown). OverSoundLog store old s (λ mine. LeavesFit old s o n)) (sym shown) fact)
+
+pub nothing_done : (store : StoreTold) (old : StoreShown) (o : Open) → OverSoundLog store old old (λ mine. LeavesFit old old o o)
+nothing_done store old o = λ tells mine sound honest sets fit. fit

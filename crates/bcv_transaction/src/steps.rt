@@ -2,6 +2,7 @@
 ghost use Rattle.std.specs.Prelude.{◌≡◌, IfSome};
 ghost use Rattle.bcv_machine.specs.State.{ToHold, ToRead};
 ghost use Rattle.bcv_publish.specs.Request.{OverSoundLog};
+ghost use Rattle.bcv_transaction.specs.FitLaws.{LeavesFit};
 ghost use Rattle.bcv_transaction.specs.Open.{AreOpen, CanRead, txn_at};
 ghost use Rattle.bcv_transaction.specs.StepCalls.{ComesAs, IsAgain, StepSays, Steps, Wants, kept_out};
 ghost use Rattle.bcv_transaction.specs.StepSides.{StepSound};
@@ -33,6 +34,8 @@ impl Transactions {
         ensures says { StepSays S.told (S.shown store.old) (S.shown store.new) result }
         ensures sound { OverSoundLog S.told (S.shown store.old) (S.shown store.new)
             (λ mine. StepSound ToRead S.told mine (S.shown store.old) (S.shown store.new) pages.now self.old number page result self.new) }
+        ensures fit { OverSoundLog S.told (S.shown store.old) (S.shown store.new)
+            (λ mine. LeavesFit (S.shown store.old) (S.shown store.new) self.old self.new) }
         ensures reached { S.reaches store.old store.new }
     {
         let _ = self.is_full();
@@ -64,6 +67,8 @@ impl Transactions {
         ensures says { StepSays S.told (S.shown store.old) (S.shown store.new) result }
         ensures sound { OverSoundLog S.told (S.shown store.old) (S.shown store.new)
             (λ mine. StepSound ToHold S.told mine (S.shown store.old) (S.shown store.new) pages.now self.old number page result self.new) }
+        ensures fit { OverSoundLog S.told (S.shown store.old) (S.shown store.new)
+            (λ mine. LeavesFit (S.shown store.old) (S.shown store.new) self.old self.new) }
         ensures reached { S.reaches store.old store.new }
     {
         let _ = self.is_full();

@@ -6,10 +6,13 @@ ghost use Rattle.bcv_base.specs.ManifestRules.{MeetsEntryRules, is_block_size};
 ghost use Rattle.bcv_cache.specs.Cache.{has_room, slot_of};
 ghost use Rattle.bcv_machine.specs.State.{Side, ToHold, ToRead, Up};
 ghost use Rattle.bcv_pages.specs.Held.{CanView, Held};
+ghost use Rattle.bcv_publish.specs.Request.{OverSoundLog};
 ghost use Rattle.bcv_snapshot.specs.BlockFetch.{BlockFetches};
 ghost use Rattle.bcv_transaction.specs.OpenCalls.{Begins, CallsIn, OpensCache};
 ghost use Rattle.bcv_transaction.specs.ListCalls.{EndsIn, FreesIn, HoldsIn, LooksIn, ReadsIn};
+ghost use Rattle.bcv_transaction.specs.FitLaws.{LeavesFit};
 ghost use Rattle.bcv_transaction.specs.MachineCalls.{
+  AreFit,
   BeginsAs,
   Comes,
   EndsAs,
@@ -190,6 +193,8 @@ impl Transactions {
             (λ c d. BlockFetches (slot_of id c.entries) (has_room c) S.told (S.shown store.old) (S.shown store.new) id c result d) }
         ensures same { self.new.txns ≡ self.old.txns }
         ensures are_open { AreOpen self.new }
+        ensures fit { OverSoundLog S.told (S.shown store.old) (S.shown store.new)
+            (λ mine. LeavesFit (S.shown store.old) (S.shown store.new) self.old self.new) }
         ensures reached { S.reaches store.old store.new }
     {
         match &mut self.cache {
@@ -218,6 +223,7 @@ impl Transactions {
             (record { store = S.shown store.old; names = N.shown names.old; upload = task.old }) result self.new
             (record { store = S.shown store.new; names = N.shown names.new; upload = task.new }) }
         ensures are_open { AreOpen self.new }
+        ensures fit { (past : List Item) (sets : ℕ → Held) → AreFit past sets self.old → AreFit past sets self.new }
         ensures running { IsRunning task.new }
         ensures reached { S.reaches store.old store.new }
     {

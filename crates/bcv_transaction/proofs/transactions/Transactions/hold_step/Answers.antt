@@ -2,6 +2,7 @@ use Rattle.std.proofs.Common.{◌≡◌, Some, None, IfSome, sym, subst}
 use Rattle.bcv_cache.specs.Entry.{Blocks}
 use Rattle.bcv_machine.specs.State.{ToHold}
 use Rattle.bcv_transaction.specs.Open.{CanRead, Open}
+use Rattle.bcv_transaction.proofs.FitLaws.{steps_leave_fit}
 use Rattle.bcv_transaction.proofs.StepSides.{StepIs, at_once, comes, comes_as, here_again, kept, still_open, wanted}
 use Rattle.bcv_transaction.proofs.transactions.Transactions.hold_step.Goals as goal
 
@@ -24,6 +25,10 @@ returns-in-Err-clause-says g c = (at_once_is g c).says
 pub returns-in-Err-clause-sound : goal.returns-in-Err-clause-sound
 returns-in-Err-clause-sound g c = (at_once_is g c).sound
 
+pub returns-in-Err-clause-fit : goal.returns-in-Err-clause-fit
+returns-in-Err-clause-fit g c =
+    steps_leave_fit ToHold c.args.pages.now g.S.Store.told (g.S.Store.shown c.args.store.now) (g.S.Store.shown c.args.store.now) c.args.self.now c.hold.new.self c.args.number c.args.page c.in-Err.stepped c.is_full.ensures.are_open c.hold.ensures.are_open (at_once_is g c).steps
+
 -- ---- the block is got
 
 pub fetch-requires : goal.fetch-requires
@@ -45,6 +50,10 @@ returns-in-Some-clause-says g c = (kept_is g c).says
 
 pub returns-in-Some-clause-sound : goal.returns-in-Some-clause-sound
 returns-in-Some-clause-sound g c = (kept_is g c).sound
+
+pub returns-in-Some-clause-fit : goal.returns-in-Some-clause-fit
+returns-in-Some-clause-fit g c =
+    steps_leave_fit ToHold c.args.pages.now g.S.Store.told (g.S.Store.shown c.args.store.now) (g.S.Store.shown c.fetch.new.store) c.args.self.now c.fetch.new.self c.args.number c.args.page c.in-Some.stepped c.is_full.ensures.are_open c.fetch.ensures.are_open (kept_is g c).steps
 
 -- ---- the block came in
 
@@ -76,3 +85,7 @@ returns-in-None-clause-says g c = (comes_is g c).says
 
 pub returns-in-None-clause-sound : goal.returns-in-None-clause-sound
 returns-in-None-clause-sound g c = (comes_is g c).sound
+
+pub returns-in-None-clause-fit : goal.returns-in-None-clause-fit
+returns-in-None-clause-fit g c =
+    steps_leave_fit ToHold c.args.pages.now g.S.Store.told (g.S.Store.shown c.args.store.now) (g.S.Store.shown c.fetch.new.store) c.args.self.now c.hold-in-None.new.self c.args.number c.args.page c.again.result c.is_full.ensures.are_open c.hold-in-None.ensures.are_open (comes_is g c).steps

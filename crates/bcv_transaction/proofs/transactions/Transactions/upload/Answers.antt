@@ -1,5 +1,7 @@
-use Rattle.std.proofs.Common.{◌≡◌, ◌∙◌, sym}
+use Rattle.std.proofs.Common.{◌≡◌, ◌∙◌, Some, sym}
 use Rattle.std.proofs.lemmas.Option.{same_Some}
+use Rattle.bcv_publish.specs.declared.work.Work.TheVariants as work
+use Rattle.bcv_transaction.proofs.FitLaws.{upload_leaves_fit}
 use Rattle.bcv_transaction.proofs.Uploads.{is_made, never_none, none_made, over_cache, size_made, still_over, uploads}
 use Rattle.bcv_transaction.proofs.transactions.Transactions.upload.Goals as goal
 use Rattle.bcv_upload.specs.State.{view_in}
@@ -42,3 +44,17 @@ returns-clause-uploads g c =
     c.upload_in.result c.in-Some.block c.in-Some-cache.cache c.upload_in.new.cache
     (is_made c.args.self.now c.open_cache.new.self (record { slots = c.self.inside.slots; cache = c.self.inside.cache; txns = c.self.inside.open.items }) c.in-Some.block c.open_cache.result c.in-Some-cache.cache c.open_cache.ensures.made (sym c.is_err.ensures.value ∙ c.if-is_err.false) c.self.view_is c.in-Some-cache.is)
     (same_Some c.in-Some.block c.args.task.now.base.block (sym c.in-Some.is ∙ c.requires.seen)) c.upload_in.ensures.works
+
+pub returns-then-is_err-clause-fit : goal.returns-then-is_err-clause-fit
+returns-then-is_err-clause-fit g c =
+    upload_leaves_fit g.S.Store.told c.args.seen.now (view_in c.args.pages.now c.args.task.now.base) c.args.self.now c.open_cache.new.self
+    (record { store = g.S.Store.shown c.args.store.now; names = g.N.Names.shown c.args.names.now; upload = c.args.task.now })
+    (record { store = g.S.Store.shown c.args.store.now; names = g.N.Names.shown c.args.names.now; upload = c.args.task.now })
+    work.NoMemory (returns-then-is_err-clause-uploads g c)
+
+pub returns-clause-fit : goal.returns-clause-fit
+returns-clause-fit g c =
+    upload_leaves_fit g.S.Store.told c.args.seen.now (view_in c.args.pages.now c.args.task.now.base) c.args.self.now (record { slots = c.self.inside.slots; cache = Some c.upload_in.new.cache; txns = c.self.inside.open.items })
+    (record { store = g.S.Store.shown c.args.store.now; names = g.N.Names.shown c.args.names.now; upload = c.args.task.now })
+    (record { store = g.S.Store.shown c.upload_in.new.store; names = g.N.Names.shown c.upload_in.new.names; upload = c.upload_in.new.task })
+    c.upload_in.result (returns-clause-uploads g c)
