@@ -103,21 +103,21 @@ impl Transactions {
     }
 
     /// The number of the set that a transaction reads, or `None` where it is not open.
-    pub fn set_of(&self, number: u8) -> Option<u32>
+    pub fn set_of(&self, number: u8) -> Option<usize>
         ensures { result ≡ set_in number self.now.txns }
     {
         set_of(&self.open, number)
     }
 
     /// The least number after which the commits of a transaction over a set begin, or `None` where none is over the set.
-    pub fn oldest(&self, set: u32) -> Option<u64>
+    pub fn oldest(&self, set: usize) -> Option<u64>
         ensures { result ≡ oldest_in set self.now.txns }
     {
         oldest_of(&self.open, set)
     }
 
     /// Begins a transaction over a base whose commits are in `pages`, the set of the number `set`. It holds no block.
-    pub fn begin(&mut self, alloc: Global, base: TxnBase, set: u32, pages: &PageSet) -> Begun
+    pub fn begin(&mut self, alloc: Global, base: TxnBase, set: usize, pages: &PageSet) -> Begun
         requires view { CanView pages.now base.from base.to }
         requires entry { MeetsEntryRules base.block base.entry }
         requires block { is_block_size base.block ≡ true }

@@ -33,7 +33,7 @@ pub(crate) fn base_of(txns: &[OpenTxn], number: u8) -> Option<&TxnBase>
 }
 
 /// The set that the transaction of a number reads.
-pub(crate) fn set_of(txns: &[OpenTxn], number: u8) -> Option<u32>
+pub(crate) fn set_of(txns: &[OpenTxn], number: u8) -> Option<usize>
     ensures { result ≡ set_in number txns.now }
 {
     match place_of(txns, number) {
@@ -43,7 +43,7 @@ pub(crate) fn set_of(txns: &[OpenTxn], number: u8) -> Option<u32>
 }
 
 /// The least number after which the commits of a transaction over a set begin.
-pub(crate) fn oldest_of(txns: &[OpenTxn], set: u32) -> Option<u64>
+pub(crate) fn oldest_of(txns: &[OpenTxn], set: usize) -> Option<u64>
     ensures { result ≡ oldest_in set txns.now }
 {
     let mut oldest = None;
