@@ -3,3 +3,5 @@ mod NotesEnded
 mod Begun
 mod KnownAt
 mod Resolved
+mod Reasons
+mod LocalEnds

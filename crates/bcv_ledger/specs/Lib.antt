@@ -1,3 +1,5 @@
 pub mod LedgerNotes
 pub mod NoteEnds
 pub mod Begins
+pub mod LocalCalls
+pub mod Reasons

@@ -8,6 +8,7 @@
 #![tactic(auto)]
 
 mod ledger;
+mod local;
 mod publication;
 mod where_noted;
 
