@@ -5,3 +5,5 @@ mod KnownAt
 mod Resolved
 mod Reasons
 mod LocalEnds
+pub mod LocalLaws
+mod LocalSteps

@@ -40,7 +40,7 @@ view_by c a b = or_else (option_map (local_view c) a) (option_map known_view b)
 
 commit_by : (closed : Bool) (w : Writes) (c : Catalog) (a : Option Local) (b : Option Known)
     → first_reason
-      ((closed, reply.Closed) ∷ (is_none (or_else (option_map local_part a) (option_map known_part b)), reply.NoDatabase) ∷ (bad_commit w (or_else (option_map local_part a) (option_map known_part b)), reply.BadPage) ∷ (large_commit w (or_else (option_map local_part a) (option_map known_part b)), reply.TooLarge) ∷ [])
+    ((closed, reply.Closed) ∷ (is_none (or_else (option_map local_part a) (option_map known_part b)), reply.NoDatabase) ∷ (bad_commit w (or_else (option_map local_part a) (option_map known_part b)), reply.BadPage) ∷ (large_commit w (or_else (option_map local_part a) (option_map known_part b)), reply.TooLarge) ∷ [])
     ≡ commit_reason_by closed w (view_by c a b)
 commit_by closed w c (Some l) b = refl
 commit_by closed w c None (Some k) = refl
@@ -72,7 +72,7 @@ none_of (Some x) e = refl
 
 revert_by : (closed pending busy : Bool) (c : Catalog) (a : Option Local) (b : Option Known) → ((l : Local) → a ≡ Some l → is_some (local_view c l).commits ≡ true)
     → first_reason
-      ((closed, reply.Closed) ∷ (pending, reply.Pending) ∷ (busy, reply.Busy) ∷ (is_none (or_else (option_map local_part a) (option_map known_part b)), reply.NoDatabase) ∷ (not (is_some a), reply.Nothing) ∷ [])
+    ((closed, reply.Closed) ∷ (pending, reply.Pending) ∷ (busy, reply.Busy) ∷ (is_none (or_else (option_map local_part a) (option_map known_part b)), reply.NoDatabase) ∷ (not (is_some a), reply.Nothing) ∷ [])
     ≡ revert_reason_by closed pending busy (view_by c a b)
 revert_by closed pending busy c (Some l) b some =
     ap (λ (x : Bool). first_reason ((closed, reply.Closed) ∷ (pending, reply.Pending) ∷ (busy, reply.Busy) ∷ (x, reply.Nothing) ∷ [])) (sym (none_of (local_view c l).commits (some l refl)))
@@ -85,11 +85,11 @@ revert_reason_is closed busy c db are = revert_by closed (is_some c.kept.pending
 -- ---- where nothing speaks against it
 
 -- of the first reasons none holds
-none_first : (b : Bool) (r : Reply) (rest : List (Bool × Reply)) → first_reason ((b, r) ∷ rest) ≡ None → (b ≡ false) × (first_reason rest ≡ None)
+pub none_first : (b : Bool) (r : Reply) (rest : List (Bool × Reply)) → first_reason ((b, r) ∷ rest) ≡ None → (b ≡ false) × (first_reason rest ≡ None)
 none_first true r rest e = absurd (cc)
 none_first false r rest e = (refl, e)
 
-not_false : (b : Bool) → not b ≡ false → b ≡ true
+pub not_false : (b : Bool) → not b ≡ false → b ≡ true
 not_false true e = refl
 not_false false e = absurd (cc)
 
@@ -161,9 +161,9 @@ noted_first c db commit v are e none = by (keyed kept_name db c.kept.locals) (ke
 
 -- a database stays known while memory is taken
 some_by : (c d : Catalog) (a : Option Local) (b : Option Known) → IsSome (view_by c a b) → IsSome (view_by d a b)
-some_by c d (Some l) b some = tt
-some_by c d None (Some k) some = tt
-some_by c d None None some = absurd some
+some_by c d (Some l) b some = refl
+some_by c d None (Some k) some = refl
+some_by c d None None some = absurd (cc)
 
 pub known_still : (old mid : Catalog) (db : List ℕ) → IsSame old mid → IsSome (found_at old db) → IsSome (found_at mid db)
 known_still old mid db same some =
@@ -174,6 +174,14 @@ known_still old mid db same some =
 -- a commit is not refused
 pub free_to_commit : (closed : Bool) (w : Writes) (c : Catalog) (db : List ℕ) → commit_reason_in (parts_by closed c) db w ≡ None → CommitIsFree closed w (found_at c db)
 free_to_commit closed w c db none = commit_is_free closed w (found_at c db) (sym (commit_reason_is closed w c db) ∙ none)
+
+-- and its database is known
+pub open_to_commit : (l : LedgerParts) (db : List ℕ) (w : Writes) → commit_reason_in l db w ≡ None → (l.closed ≡ false) × (is_none (part_view_in l db) ≡ false)
+open_to_commit l db w none =
+    let unknown : Bool = is_none (part_view_in l db) in
+    let last = (bad_commit w (part_view_in l db), reply.BadPage) ∷ (large_commit w (part_view_in l db), reply.TooLarge) ∷ [] in
+    let a = none_first l.closed reply.Closed ((unknown, reply.NoDatabase) ∷ last) none in
+    (a.0, (none_first unknown reply.NoDatabase last a.1).0)
 
 -- nor is a revert
 pub record RevertIsFree (closed busy : Bool) (c : Catalog) (db : List ℕ) : Type 0 where

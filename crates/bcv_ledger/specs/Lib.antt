@@ -3,3 +3,4 @@ pub mod NoteEnds
 pub mod Begins
 pub mod LocalCalls
 pub mod Reasons
+pub mod LocalLaws

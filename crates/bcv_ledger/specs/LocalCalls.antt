@@ -57,6 +57,11 @@ abbrev pub RevertsWhere : Bool → Catalog → Catalog → List ℕ → Type 0
 RevertsWhere true old new db = changes.Reverts old new db
 RevertsWhere false old new db = new ≡ old
 
+-- nothing has changed
+pub record IsUnmoved {D : Type 0} {g : _} (old new : Ledger D g) : Type 0 where
+  pub log : new.log ≡ old.log
+  pub databases : new.databases ≡ old.databases
+
 -- ---- commit
 
 -- a commit that is not refused is noted: the first one of a known database, or one more
@@ -67,7 +72,7 @@ pub record CommitNotes {D : Type 0} {g : _} (told : DiskTold) (shown : D → Dis
 
 abbrev pub CommitsFrom : {D : Type 0} {g : _} → DiskTold → (D → DiskShown) → Ledger D g → Ledger D g → List ℕ → Commit → Reply → Option Reply → Type 0
 CommitsFrom told shown old new db c r None = CommitNotes told shown old new db c r
-CommitsFrom told shown old new db c r (Some why) = (r ≡ why) × (new ≡ old)
+CommitsFrom told shown old new db c r (Some why) = (r ≡ why) × IsUnmoved old new
 
 -- over every disk: the first reason that holds is answered, and the ledger is as it was; else the commit is noted
 abbrev pub LedgerCommits : {D : Type 0} {g : _} → DiskTold → (D → DiskShown) → Ledger D g → Ledger D g → List ℕ → Commit → Reply → Type 0
@@ -83,7 +88,7 @@ pub record RevertNotes {D : Type 0} {g : _} (told : DiskTold) (shown : D → Dis
 
 abbrev pub RevertsFrom : {D : Type 0} {g : _} → DiskTold → (D → DiskShown) → Ledger D g → Ledger D g → List ℕ → Reply → Option Reply → Type 0
 RevertsFrom told shown old new db r None = RevertNotes told shown old new db r
-RevertsFrom told shown old new db r (Some why) = (r ≡ why) × (new ≡ old)
+RevertsFrom told shown old new db r (Some why) = (r ≡ why) × IsUnmoved old new
 
 abbrev pub LedgerReverts : {D : Type 0} {g : _} → DiskTold → (D → DiskShown) → Ledger D g → Ledger D g → Bool → List ℕ → Reply → Type 0
 LedgerReverts told shown old new busy db r = RevertsFrom told shown old new db r (revert_reason_in (parts_in old) busy db)

@@ -7,9 +7,11 @@
 //! call is one of the machine's.
 #![tactic(auto)]
 
+mod laws;
 mod ledger;
 mod local;
 mod publication;
 mod where_noted;
 
+pub use laws::local_notes_may_stand;
 pub use ledger::Ledger;

@@ -20,14 +20,14 @@ returns-in-Some g c =
     let d = g.D.Disk in
     let old = c.args.self.now in
     let why : commit_reason_in (parts_in old) c.args.db (writes_of c.args.commit) ≡ Some c.in-Some.reason = (search rules) in
-    commits_by d.told d.shown old old c.args.db c.args.commit c.in-Some.reason (Some c.in-Some.reason) why (refl, refl)
+    commits_by d.told d.shown old _ c.args.db c.args.commit c.in-Some.reason (Some c.in-Some.reason) why (refl, record { log = refl; databases = refl })
 
 pub ready-requires-clause-known : goal.ready-requires-clause-known
 ready-requires-clause-known g c =
     let old = c.args.self.now in
     let w = writes_of c.args.commit in
     let none : commit_reason_in (parts_in old) c.args.db w ≡ None = (search rules) in
-    subst (λ (o : Option View). IsSome o) (sym (free_to_commit (is_shut old.log) w old.databases c.args.db none).is) tt
+    subst (λ (o : Option View). IsSome o) (sym (free_to_commit (is_shut old.log) w old.databases c.args.db none).is) refl
 
 pub ready-requires-clause-fits : goal.ready-requires-clause-fits
 ready-requires-clause-fits g c =
@@ -54,7 +54,7 @@ note_over-noted-requires-clause-known g c =
     let old = c.args.self.now in
     let w = writes_of c.args.commit in
     let none : commit_reason_in (parts_in old) c.args.db w ≡ None = (search rules) in
-    known_still old.databases c.ready.new.self c.args.db c.ready.ensures.same (subst (λ (o : Option View). IsSome o) (sym (free_to_commit (is_shut old.log) w old.databases c.args.db none).is) tt)
+    known_still old.databases c.ready.new.self c.args.db c.ready.ensures.same (subst (λ (o : Option View). IsSome o) (sym (free_to_commit (is_shut old.log) w old.databases c.args.db none).is) refl)
 
 pub note_over-noted-requires-clause-few : goal.note_over-noted-requires-clause-few
 note_over-noted-requires-clause-few g c =
