@@ -7,3 +7,5 @@ mod Reasons
 mod LocalEnds
 pub mod LocalLaws
 mod LocalSteps
+mod TableLaws
+pub mod FitsLedger

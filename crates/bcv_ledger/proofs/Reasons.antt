@@ -26,11 +26,7 @@ use Rattle.bcv_pages.specs.Held.{Held, last_of}
 use Rattle.bcv_clientstate.specs.PartRefusals.{bad_commit, commit_reason_in, has_local_in, known_part, large_commit, local_part, part_view_in, revert_reason_in}
 use Rattle.bcv_clientstate.specs.Parts.{LedgerParts}
 use Rattle.bcv_dbmap.proofs.Keys.{keyed_key}
-use Rattle.bcv_ledger.specs.Reasons.{commit_reason_by, revert_reason_by}
-
--- what a client's log and databases have
-abbrev pub parts_by : Bool → Catalog → LedgerParts
-parts_by closed c = record { closed = closed; kept = c.kept; known = c.known }
+use Rattle.bcv_ledger.specs.Reasons.{commit_reason_by, parts_by, revert_reason_by}
 
 -- the view of a database with commits, or of a known one
 abbrev pub view_by : Catalog → Option Local → Option Known → Option View

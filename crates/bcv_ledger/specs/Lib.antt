@@ -4,3 +4,5 @@ pub mod Begins
 pub mod LocalCalls
 pub mod Reasons
 pub mod LocalLaws
+pub mod TableLaws
+pub mod FitsLedger

@@ -14,6 +14,11 @@ use Rattle.bcv_model.specs.declared.ask.Commit.{Commit}
 use Rattle.bcv_model.specs.declared.note.Note.{Note}
 use Rattle.bcv_model.specs.declared.reply.Reply.{Reply}
 use Rattle.bcv_model.specs.declared.reply.Reply.TheVariants as reply
+use Rattle.bcv_clientstate.specs.Parts.{LedgerParts}
+
+-- of a client's parts, what its log and databases have
+abbrev pub parts_by : Bool → Catalog → LedgerParts
+parts_by closed c = record { closed = closed; kept = c.kept; known = c.known }
 
 abbrev pub commit_reason_by : Bool → Writes → Option View → Option Reply
 commit_reason_by closed w None = first_reason ((closed, reply.Closed) ∷ (true, reply.NoDatabase) ∷ [])

@@ -11,7 +11,8 @@ mod laws;
 mod ledger;
 mod local;
 mod publication;
+mod shown;
 mod where_noted;
 
-pub use laws::local_notes_may_stand;
+pub use laws::{ends_keep_fits, found_is_view, lists_are_the_machines, local_notes_may_stand};
 pub use ledger::Ledger;
