@@ -3,3 +3,9 @@ mod NotesEnded
 mod Begun
 mod KnownAt
 mod Resolved
+mod Reasons
+mod LocalEnds
+pub mod LocalLaws
+mod LocalSteps
+mod TableLaws
+pub mod FitsLedger

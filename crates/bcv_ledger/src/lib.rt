@@ -7,8 +7,12 @@
 //! call is one of the machine's.
 #![tactic(auto)]
 
+mod laws;
 mod ledger;
+mod local;
 mod publication;
+mod shown;
 mod where_noted;
 
+pub use laws::{ends_keep_fits, found_is_view, lists_are_the_machines, local_notes_may_stand};
 pub use ledger::Ledger;
