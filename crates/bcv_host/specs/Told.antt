@@ -1,5 +1,5 @@
 -- What the real clock and the source of random names show, which tell nothing but how often they failed.
-use Rattle.std.specs.Prelude.{◌≡◌, ℕ, List, ◌++◌, None}
+use Rattle.std.specs.Prelude.{◌≡◌, ℕ, ◌++◌, None}
 use Rattle.std.specs.Int.{w64, to_be_bytes}
 use Rattle.bcv_base.specs.Moments.{ClockShown}
 use Rattle.bcv_base.specs.Drawn.{NamesShown}

@@ -1,4 +1,5 @@
 ghost use Rattle.std.specs.Prelude.{◌≡◌, ◌≢◌, ◌≤◌, ◌<◌, ◌+◌, ◌^◌, ℕ, List, length};
+ghost use Rattle.bcv_base.specs.Plan.{one_more};
 ghost use Rattle.bcv_disk.specs.DiskCalls.{DiskCuts, DiskLens, DiskReads, DiskSyncs, DiskWrites};
 
 use crate::fault::OpenFault;
@@ -26,7 +27,10 @@ impl FileDisk {
     ///
     /// The folder is synced each time, since an earlier process may have made the file and ended before it came to that. It
     /// answers `InUse` where another process, or another disk of this one, has the file open.
-    pub fn on<R: Files<File = File> + AllocGlobal>(rt: &R, path: &str) -> Result<FileDisk, OpenFault> {
+    pub fn on<R: Files<File = File> + AllocGlobal>(
+        rt: &R,
+        path: &str,
+    ) -> Result<FileDisk, OpenFault> {
         let folder = open_folder(rt, path)?;
         let mut name = String::from_str(rt.alloc(), path)?;
         name.push_str("/journal")?;
@@ -38,14 +42,23 @@ impl FileDisk {
         }
     }
 
-    // How a call ended, of which a failure is counted.
+    // Counts a call that failed.
+    fn count_fault(&mut self)
+        ensures counts { disk_faults self.new ≡ one_more (disk_faults self.old) }
+        ensures later { disk_faults self.old ≤ disk_faults self.new }
+    {
+        self.faults = self.faults.saturating_add(1);
+    }
+
+    // How a call of the system ended, of which a failure is counted.
     fn ended(&mut self, done: bool) -> DiskEnd
-        ensures { EndsAs done (disk_faults self.old) (disk_faults self.new) result }
+        ensures ends { EndsAs done (disk_faults self.old) (disk_faults self.new) result }
+        ensures later { disk_faults self.old ≤ disk_faults self.new }
     {
         if done {
             return DiskEnd::Done;
         }
-        self.faults = self.faults.saturating_add(1);
+        self.count_fault();
         DiskEnd::Failed
     }
 }
@@ -91,7 +104,7 @@ impl Disk for FileDisk {
         match self.file.metadata() {
             Ok(found) => Size::Len(found.len()),
             Err(_) => {
-                self.faults = self.faults.saturating_add(1);
+                self.count_fault();
                 Size::Failed
             }
         }
