@@ -14,10 +14,16 @@ use Rattle.bcv_dirstore.specs.declared.folder.Front.{Front}
 use Rattle.bcv_dirstore.specs.declared.folder.Front.TheVariants as front
 use Rattle.bcv_dirstore.specs.FolderShown.{Files, FolderTold, FolderShown}
 
--- a failure is counted
-pub record FolderFails (old new : FolderShown) (failed : Type 0) : Type 0 where
+-- a call fails exactly where that was planned
+abbrev pub IsForeseen : Bool → Type 0 → Type 0
+IsForeseen true failed = failed
+IsForeseen false failed = failed → ⊥
+
+-- a failure is counted, and comes as planned where the folder tells that
+pub record FolderFails (told : FolderTold) (old new : FolderShown) (failed : Type 0) : Type 0 where
   pub later : old.faults ≤ new.faults
   pub rose : failed → Rose old.faults new.faults
+  pub planned : told.plans → IsForeseen old.fails_next failed
 
 -- the call changes no file, and not the lock
 pub record LeavesFiles (old new : FolderShown) : Type 0 where
@@ -38,7 +44,7 @@ lock_after how NoMemory = None
 pub record FolderLocks (told : FolderTold) (old new : FolderShown) (how : Lock) (result : FolderEnd) : Type 0 where
   pub lock : told.tells → new.lock ≡ lock_after how result
   pub files : told.tells → told.alone → new.files ≡ old.files
-  pub fails : FolderFails old new (result ≡ Failed)
+  pub fails : FolderFails told old new (result ≡ Failed)
 
 -- the lock is given up
 pub record FolderUnlocks (told : FolderTold) (old new : FolderShown) : Type 0 where
@@ -60,12 +66,17 @@ IsFront file front.NoMemory = Unit {0}
 pub record FolderFronts (told : FolderTold) (old new : FolderShown) (name : ObjName) (result : Front) : Type 0 where
   pub is : told.tells → IsFront (old.files name) result
   pub leaves : told.tells → LeavesFiles old new
-  pub fails : FolderFails old new (result ≡ front.Failed)
+  pub fails : FolderFails told old new (result ≡ front.Failed)
 
 -- the bytes after the first eight
 abbrev pub IsRest : Option (List ℕ) → List ℕ → Type 0
 IsRest None rest = ⊥
 IsRest (Some bytes) rest = rest ≡ drop 8 bytes
+
+-- a file has as many bytes after the first eight
+abbrev pub HasRest : Option (List ℕ) → ℕ → Type 0
+HasRest None len = ⊥
+HasRest (Some bytes) len = length bytes ≡ 8 + len
 
 -- the bytes of an object's file that follow the first eight
 pub record FolderRests (told : FolderTold) (old new : FolderShown) (name : ObjName) (len : ℕ) (into : List ℕ) (result : FolderEnd) : Type 0 where
@@ -73,20 +84,20 @@ pub record FolderRests (told : FolderTold) (old new : FolderShown) (name : ObjNa
   pub len_is : result ≡ Done → length into ≡ len
   pub none : result ≢ Done → into ≡ []
   pub leaves : told.tells → LeavesFiles old new
-  pub fails : FolderFails old new (result ≡ Failed)
+  pub fails : FolderFails told old new (result ≡ Failed)
 
 -- the draft of an object; where it failed, the draft may be anything
 pub record FolderWrites (told : FolderTold) (old new : FolderShown) (name : ObjName) (first bytes : List ℕ) (result : FolderEnd) : Type 0 where
   pub draft : told.tells → result ≡ Done → new.drafts name ≡ Some (first ++ bytes)
   pub leaves : told.tells → LeavesFiles old new
-  pub fails : FolderFails old new (result ≡ Failed)
+  pub fails : FolderFails told old new (result ≡ Failed)
 
 -- what was written here is on the disk
 pub record FolderSyncs (told : FolderTold) (old new : FolderShown) (result : FolderEnd) : Type 0 where
   pub synced : told.tells → result ≡ Done → new.synced ≡ true
   pub drafts : told.tells → new.drafts ≡ old.drafts
   pub leaves : told.tells → LeavesFiles old new
-  pub fails : FolderFails old new (result ≡ Failed)
+  pub fails : FolderFails told old new (result ≡ Failed)
 
 -- an object's file is its draft of before
 pub record IsRenamed (old new : FolderShown) (name : ObjName) : Type 0 where
@@ -104,7 +115,7 @@ pub record FolderRenames (told : FolderTold) (old new : FolderShown) (name : Obj
   pub files : told.tells → RenameLeaves old new name result
   pub lock : told.tells → new.lock ≡ old.lock
   pub synced : told.tells → new.synced ≡ old.synced
-  pub fails : FolderFails old new (result ≡ Failed)
+  pub fails : FolderFails told old new (result ≡ Failed)
 
 -- the names of files are on the disk
 pub record FolderNames (told : FolderTold) (old new : FolderShown) (result : FolderEnd) : Type 0 where
@@ -112,7 +123,7 @@ pub record FolderNames (told : FolderTold) (old new : FolderShown) (result : Fol
   pub named : told.tells → result ≡ Done → new.named ≡ true
   pub synced : told.tells → new.synced ≡ old.synced
   pub leaves : told.tells → LeavesFiles old new
-  pub fails : FolderFails old new (result ≡ Failed)
+  pub fails : FolderFails told old new (result ≡ Failed)
 
 -- an object has no file
 pub record IsRemoved (old new : Files) (name : ObjName) : Type 0 where
@@ -129,7 +140,7 @@ RemoveLeaves old new name NoMemory = new ≡ old
 pub record FolderRemoves (told : FolderTold) (old new : FolderShown) (name : ObjName) (result : FolderEnd) : Type 0 where
   pub files : told.tells → RemoveLeaves old.files new.files name result
   pub lock : told.tells → new.lock ≡ old.lock
-  pub fails : FolderFails old new (result ≡ Failed)
+  pub fails : FolderFails told old new (result ≡ Failed)
 
 -- the ids of the blocks that have a file
 abbrev pub AreBlocks : Files → List Id16 → Type 0
@@ -139,4 +150,4 @@ AreBlocks files ids = (i : Id16) → has_id i ids ≡ is_some (files (object.Blo
 pub record FolderBlocks (told : FolderTold) (old new : FolderShown) (into : List Id16) (result : FolderEnd) : Type 0 where
   pub are : told.tells → result ≡ Done → AreBlocks old.files into
   pub leaves : told.tells → LeavesFiles old new
-  pub fails : FolderFails old new (result ≡ Failed)
+  pub fails : FolderFails told old new (result ≡ Failed)

@@ -13,6 +13,8 @@ pub record FolderTold : Type 1 where
   pub tells : Type 0
   -- nobody else changes its files
   pub alone : Type 0
+  -- it tells which call fails next
+  pub plans : Type 0
 
 -- what a folder shows
 pub record FolderShown : Type 0 where
@@ -25,5 +27,7 @@ pub record FolderShown : Type 0 where
   pub synced : Bool
   -- the names of the files are on the disk
   pub named : Bool
+  -- the next call is planned to fail
+  pub fails_next : Bool
   -- how many calls have failed
   pub faults : ℕ

@@ -1,6 +1,6 @@
 ghost use Rattle.std.specs.Prelude.{◌≡◌, ◌≢◌, ℕ, true, List, [], Option, Some, IsSome};
 ghost use Rattle.bcv_base.specs.declared.object.ObjName.TheVariants as object;
-ghost use Rattle.bcv_dirstore.specs.FolderCalls.{FolderLocks, FolderUnlocks, FolderFronts, FolderRests, FolderWrites, FolderSyncs, FolderRenames, FolderNames, FolderRemoves, FolderBlocks};
+ghost use Rattle.bcv_dirstore.specs.FolderCalls.{FolderLocks, FolderUnlocks, FolderFronts, FolderRests, HasRest, FolderWrites, FolderSyncs, FolderRenames, FolderNames, FolderRemoves, FolderBlocks};
 
 use bcv_base::{Id16, ObjName};
 use std::alloc::Global;
@@ -67,6 +67,7 @@ pub trait Folder {
     /// empty before, and after every other answer.
     fn rest(&mut self, alloc: Global, name: &ObjName, len: usize, into: &mut Vec<u8>) -> FolderEnd
         requires locked { told.tells → IsSome (shown self.old).lock }
+        requires there { told.tells → HasRest ((shown self.old).files name.now) len }
         requires empty { into.old.items ≡ [] }
         ensures rests { FolderRests told (shown self.old) (shown self.new) name.now len into.new.items result };
 
@@ -84,6 +85,7 @@ pub trait Folder {
     /// A manifest's draft takes its place only when all that was written is on the disk.
     fn rename(&mut self, alloc: Global, name: &ObjName) -> FolderEnd
         requires locked { told.tells → (shown self.old).lock ≡ Some Exclusive }
+        requires there { told.tells → IsSome ((shown self.old).drafts name.now) }
         requires synced { told.tells → name.now ≡ object.Manifest → (shown self.old).synced ≡ true }
         ensures renames { FolderRenames told (shown self.old) (shown self.new) name.now result };
 

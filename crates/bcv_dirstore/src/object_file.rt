@@ -5,7 +5,7 @@ ghost use Rattle.bcv_base.specs.declared.object.ObjName.TheVariants as object;
 ghost use Rattle.bcv_store.specs.Within.{IsGotWithin};
 ghost use Rattle.bcv_dirstore.specs.declared.folder.Lock.TheVariants.{Exclusive};
 ghost use Rattle.bcv_dirstore.specs.FolderShown.{Files};
-ghost use Rattle.bcv_dirstore.specs.FolderCalls.{FolderFails, LeavesFiles, IsFront};
+ghost use Rattle.bcv_dirstore.specs.FolderCalls.{LeavesFiles, IsFront};
 ghost use Rattle.bcv_dirstore.specs.Answers.{GetsFile, PutAnswersFile};
 ghost use Rattle.bcv_dirstore.specs.Steps.{EtagsAsked, Replaces};
 
@@ -114,7 +114,8 @@ fn replace_block<F: Folder>(
     requires locked { F.told.tells → (F.shown folder.old).lock ≡ Some Exclusive }
     requires block { name.now ≡ object.Manifest → ⊥ }
     ensures replaces { F.told.tells → Replaces (F.shown folder.old) (F.shown folder.new) name.now front bytes.now result }
-    ensures fails { FolderFails (F.shown folder.old) (F.shown folder.new) (result ≡ FolderEnd.Failed) }
+    ensures later { (F.shown folder.old).faults ≤ (F.shown folder.new).faults }
+    ensures rose { result ≡ FolderEnd.Failed → Rose (F.shown folder.old).faults (F.shown folder.new).faults }
 {
     match folder.write(alloc, name, front, bytes) {
         FolderEnd::Done => folder.rename(alloc, name),
@@ -131,7 +132,8 @@ fn replace_manifest<F: Folder>(
 ) -> FolderEnd
     requires locked { F.told.tells → (F.shown folder.old).lock ≡ Some Exclusive }
     ensures replaces { F.told.tells → Replaces (F.shown folder.old) (F.shown folder.new) object.Manifest front bytes.now result }
-    ensures fails { FolderFails (F.shown folder.old) (F.shown folder.new) (result ≡ FolderEnd.Failed) }
+    ensures later { (F.shown folder.old).faults ≤ (F.shown folder.new).faults }
+    ensures rose { result ≡ FolderEnd.Failed → Rose (F.shown folder.old).faults (F.shown folder.new).faults }
 {
     match folder.write(alloc, &ObjName::Manifest, front, bytes) {
         FolderEnd::Done => {}
