@@ -54,7 +54,7 @@ impl<F: Folder> DirStore<F> {
 
     // Counts a request where it failed.
     fn count(&mut self, failed: bool)
-        ensures { CountsFault (failed ≡ true) (faults_of self.old) (faults_of self.new) }
+        ensures counts { CountsFault (failed ≡ true) (faults_of self.old) (faults_of self.new) }
         ensures folder { folder_of self.new ≡ folder_of self.old }
     {
         if failed {

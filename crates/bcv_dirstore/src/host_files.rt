@@ -1,4 +1,4 @@
-ghost use Rattle.std.specs.Prelude.{◌≡◌, ℕ, List, [], length, OnOk, OnErr};
+ghost use Rattle.std.specs.Prelude.{◌≡◌, ◌≢◌, ℕ, List, [], length, OnOk, IfOk};
 
 use crate::folder::Front;
 use bcv_base::{Id16, ObjName};
@@ -10,7 +10,9 @@ use std::os::unix::fs::FileExt;
 use std::rt::Files;
 
 /// What the file at a path begins with.
-pub fn read_front<R: Files<File = File>>(rt: &R, path: &str) -> io::Result<Front> {
+pub fn read_front<R: Files<File = File>>(rt: &R, path: &str) -> io::Result<Front>
+    ensures { IfOk result (λ front. front ≢ Front.Failed) }
+{
     let file = match File::open(rt, path) {
         Ok(file) => file,
         Err(error) if error.kind() == ErrorKind::NotFound => return Ok(Front::Missing),

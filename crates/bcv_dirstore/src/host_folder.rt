@@ -56,14 +56,7 @@ impl<R: Files<File = File> + AllocGlobal + Clone + Drop> HostFolder<R> {
 
     // The path of an object's file, with an ending.
     fn path_of(&self, name: &ObjName, ending: &str) -> Result<String, AllocError> {
-        let text = name.write();
-        let mut path = String::from_str(self.rt.alloc(), &self.path)?;
-        path.push('/')?;
-        for byte in text.bytes.iter().take(text.len as usize) {
-            path.push(char::from(*byte))?;
-        }
-        path.push_str(ending)?;
-        Ok(path)
+        object_path(self.rt.alloc(), &self.path, name, ending)
     }
 
     // How a call of the system ended, of which a failure is counted.
@@ -72,9 +65,19 @@ impl<R: Files<File = File> + AllocGlobal + Clone + Drop> HostFolder<R> {
     {
         match answer {
             Ok(()) => FolderEnd::Done,
-            Err(error) if error.kind() == ErrorKind::OutOfMemory => FolderEnd::NoMemory,
-            Err(_) => self.failed(),
+            Err(error) => self.fault(error),
         }
+    }
+
+    // What an error of the system is to a caller; but for want of memory it is counted.
+    fn fault(&mut self, error: io::Error) -> FolderEnd
+        ensures ends { EndsCall (host_faults self.old) (host_faults self.new) result }
+        ensures undone { result ≢ FolderEnd.Done }
+    {
+        if error.kind() == ErrorKind::OutOfMemory {
+            return FolderEnd::NoMemory;
+        }
+        self.failed()
     }
 
     // Counts a call that failed.
@@ -102,22 +105,36 @@ impl<R: Files<File = File> + AllocGlobal + Clone + Drop> HostFolder<R> {
     fn sync_written(&mut self) -> io::Result<()>
         ensures { host_faults self.new ≡ host_faults self.old }
     {
+        let mut synced = 0;
         if let Some(draft) = &self.draft {
-            self.syncs = self.syncs.saturating_add(1);
             draft.sync_all()?;
+            synced = 1;
         }
         for id in self.unsynced.iter() {
-            let path = self.path_of(&ObjName::Block(*id), "")?;
-            self.syncs = self.syncs.saturating_add(1);
+            let path = object_path(self.rt.alloc(), &self.path, &ObjName::Block(*id), "")?;
             sync_file(&self.rt, &path)?;
         }
+        self.syncs = self.syncs.saturating_add(synced).saturating_add(self.unsynced.len() as u64);
         Ok(())
     }
 
     fn rename_draft(&self, name: &ObjName) -> io::Result<()> {
-        let (from, to) = (self.path_of(name, ".tmp")?, self.path_of(name, "")?);
+        let from = self.path_of(name, ".tmp")?;
+        let to = self.path_of(name, "")?;
         fs::rename(&self.rt, &from, &to)
     }
+}
+
+// The path of an object's file in a folder, with an ending.
+fn object_path(alloc: Global, folder: &str, name: &ObjName, ending: &str) -> Result<String, AllocError> {
+    let text = name.write();
+    let mut path = String::from_str(alloc, folder)?;
+    path.push('/')?;
+    for byte in text.bytes.iter().take(text.len as usize) {
+        path.push(char::from(*byte))?;
+    }
+    path.push_str(ending)?;
+    Ok(path)
 }
 
 impl<R: Files<File = File> + AllocGlobal + Clone + Drop> Folder for HostFolder<R> {
@@ -158,11 +175,13 @@ impl<R: Files<File = File> + AllocGlobal + Clone + Drop> Folder for HostFolder<R
         let Ok(path) = self.path_of(name, "") else {
             return FolderEnd::NoMemory;
         };
-        let read = read_rest(&self.rt, &path, len, into);
-        if read.is_err() {
-            into.clear();
+        match read_rest(&self.rt, &path, len, into) {
+            Ok(()) => FolderEnd::Done,
+            Err(error) => {
+                into.clear();
+                self.fault(error)
+            }
         }
-        self.ended(read)
     }
 
     fn write(&mut self, alloc: Global, name: &ObjName, front: [u8; 8], bytes: &[u8]) -> FolderEnd {

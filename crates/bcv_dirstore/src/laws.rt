@@ -5,5 +5,6 @@ ghost use Rattle.bcv_dirstore.specs.ObjectFile.{StoredIsFound};
 pub fn stored_is_found(etag: u64, bytes: &[u8])
     ensures { StoredIsFound etag bytes.now }
 {
-    let _ = (etag, bytes);
+    let _ = etag;
+    let _ = bytes;
 }
