@@ -1,3 +1,3 @@
 pub mod Files
-pub mod Listing
+pub mod FirstIds
 pub mod Stored

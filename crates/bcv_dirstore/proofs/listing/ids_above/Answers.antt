@@ -3,7 +3,7 @@ use Rattle.std.specs.Option.{option_copied}
 use Rattle.std.specs.Map.{keys_of}
 use Rattle.bcv_base.specs.declared.id.Id16.{Id16}
 use Rattle.bcv_dirstore.specs.Index.{ids_past}
-use Rattle.bcv_dirstore.proofs.Listing.{more_listed, end_listed}
+use Rattle.bcv_dirstore.proofs.FirstIds.{more_listed, end_listed}
 use Rattle.bcv_dirstore.proofs.listing.ids_above.Goals as goal
 
 pub returns-then-len-eq-MOST-clause-listed : goal.returns-then-len-eq-MOST-clause-listed

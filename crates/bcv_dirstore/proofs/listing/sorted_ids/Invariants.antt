@@ -1,5 +1,5 @@
 use Rattle.std.proofs.Common.{drop}
-use Rattle.bcv_dirstore.proofs.Listing.{Comes}
+use Rattle.bcv_dirstore.proofs.FirstIds.{Comes}
 use Rattle.bcv_dirstore.proofs.listing.sorted_ids.Given as goal
 
 abbrev pub invariant-loop-id : goal.invariant-loop-id

@@ -122,7 +122,7 @@ module _ {V : Type 0} where
       pick false h = h
 
 -- the ids that pass a test
-past_of : Option Id16 → List Id16 → List Id16
+abbrev past_of : Option Id16 → List Id16 → List Id16
 past_of after ids = filter (λ (i : Id16). range_contains id_cmp (start_of after) bound.Unbounded i) ids
 
 -- among them is each that is there and passes
