@@ -1,3 +1,4 @@
 pub mod Files
 pub mod FirstIds
+pub mod Putting
 pub mod Stored

@@ -68,12 +68,7 @@ pub fn put_object<F: Folder>(
         Ok(etag) => etag,
         Err(answer) => return answer,
     };
-    let front = etag.to_be_bytes();
-    let end = match name {
-        ObjName::Manifest => replace_manifest(folder, alloc, front, bytes),
-        ObjName::Block(_) => replace_block(folder, alloc, name, front, bytes),
-    };
-    match end {
+    match replace(folder, alloc, name, etag.to_be_bytes(), bytes) {
         FolderEnd::Done => Put::Stored(etag),
         FolderEnd::Failed => Put::Failed,
         FolderEnd::NoMemory => Put::NoMemory,
@@ -100,6 +95,25 @@ fn new_etag(front: Front, cond: Cond) -> Result<u64, Put>
     match etag.checked_add(1) {
         Some(next) => Ok(next),
         None => Err(Put::Failed),
+    }
+}
+
+// Puts an object's new contents in place of its file.
+fn replace<F: Folder>(
+    folder: &mut F,
+    alloc: Global,
+    name: &ObjName,
+    front: [u8; 8],
+    bytes: &[u8],
+) -> FolderEnd
+    requires locked { F.told.tells → (F.shown folder.old).lock ≡ Some Exclusive }
+    ensures replaces { F.told.tells → Replaces (F.shown folder.old) (F.shown folder.new) name.now front bytes.now result }
+    ensures later { (F.shown folder.old).faults ≤ (F.shown folder.new).faults }
+    ensures rose { result ≡ FolderEnd.Failed → Rose (F.shown folder.old).faults (F.shown folder.new).faults }
+{
+    match name {
+        ObjName::Manifest => replace_manifest(folder, alloc, front, bytes),
+        ObjName::Block(_) => replace_block(folder, alloc, name, front, bytes),
     }
 }
 
