@@ -2,12 +2,11 @@ ghost use Rattle.std.specs.Prelude.{◌≡◌, ◌≢◌, ℕ, List, [], length,
 
 use crate::folder::Front;
 use bcv_base::{Id16, ObjName};
-use std::fs;
 use std::fs::File;
-use std::io;
 use std::io::ErrorKind;
 use std::os::unix::fs::FileExt;
 use std::rt::Files;
+use std::{fs, io};
 
 /// What the file at a path begins with.
 pub fn read_front<R: Files<File = File>>(rt: &R, path: &str) -> io::Result<Front>

@@ -2,17 +2,14 @@ ghost use Rattle.std.specs.Prelude.{◌≡◌, ◌≢◌, ◌≤◌, ℕ, List, 
 ghost use Rattle.bcv_base.specs.Faults.{Rose};
 
 use crate::folder::{Folder, FolderEnd, Front, Lock};
-use crate::host_files::{
-    add_blocks, read_front, read_rest, remove_file, sync_file, write_file,
-};
+use crate::host_files::{add_blocks, read_front, read_rest, remove_file, sync_file, write_file};
 use bcv_base::{Id16, ObjName};
 use bcv_host::{OpenFault, open_folder};
 use std::alloc::{AllocError, Global};
-use std::fs;
 use std::fs::File;
-use std::io;
 use std::io::ErrorKind;
 use std::rt::Files;
+use std::{fs, io};
 
 /// A folder of the system, locked by an advisory lock on the folder itself.
 ///
@@ -114,7 +111,10 @@ impl<R: Files<File = File> + AllocGlobal + Clone + Drop> HostFolder<R> {
             let path = object_path(self.rt.alloc(), &self.path, &ObjName::Block(*id), "")?;
             sync_file(&self.rt, &path)?;
         }
-        self.syncs = self.syncs.saturating_add(synced).saturating_add(self.unsynced.len() as u64);
+        self.syncs = self
+            .syncs
+            .saturating_add(synced)
+            .saturating_add(self.unsynced.len() as u64);
         Ok(())
     }
 
@@ -126,7 +126,12 @@ impl<R: Files<File = File> + AllocGlobal + Clone + Drop> HostFolder<R> {
 }
 
 // The path of an object's file in a folder, with an ending.
-fn object_path(alloc: Global, folder: &str, name: &ObjName, ending: &str) -> Result<String, AllocError> {
+fn object_path(
+    alloc: Global,
+    folder: &str,
+    name: &ObjName,
+    ending: &str,
+) -> Result<String, AllocError> {
     let text = name.write();
     let mut path = String::from_str(alloc, folder)?;
     path.push('/')?;
