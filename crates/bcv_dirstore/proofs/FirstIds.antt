@@ -21,9 +21,13 @@ use Rattle.std.specs.BTreeMap.Range.{range_contains, entries_between}
 use Rattle.std.specs.declared.ops.Bound.TheVariants as bound
 use Rattle.bcv_base.specs.declared.id.Id16.{Id16}
 use Rattle.bcv_base.specs.Ids.{id_eq, has_id}
+use Rattle.bcv_store.specs.declared.store.Listed.{Listed}
 use Rattle.bcv_store.specs.declared.store.Listed.TheVariants as listed
 use Rattle.bcv_store.specs.Asked.{is_past, id_before, are_ascending}
 use Rattle.bcv_store.specs.Within.{IsListedWithin}
+use Rattle.bcv_dirstore.specs.FolderShown.{Files}
+use Rattle.bcv_dirstore.specs.FolderCalls.{AreBlocks}
+use Rattle.bcv_dirstore.specs.Answers.{AreFilesAbove, ListAnswersFiles}
 use Rattle.bcv_dirstore.specs.Index.{id_cmp, start_of, ids_past, HasIds, AreIdsAbove, ListsFirst}
 
 both : (a b : Bool) → a ≡ true → b ≡ true → (a && b) ≡ true
@@ -201,3 +205,19 @@ module _ {V : Type 0} (sorted : BTreeMap Id16 V) (found : List Id16) (after : Op
       let short : length (ids_past after sorted) ≤ 1024 = ltb-false _ _ (sym h.0) in
       let same : into ≡ ids_past after sorted = h.1 ∙ take_all 1024 (ids_past after sorted) short in
       (rw same (record { ascending = ascending; past = all_above }), rw same short)
+
+-- ---- the files of a folder
+
+-- the first of the ids that a folder gave are the first of its blocks
+pub lists_files : (files : Files) (found : List Id16) (from : Option Id16) (into : List Id16) (failed : Type 0) (result : Listed) → AreBlocks files found
+    → ListsFirst found from into result → ListAnswersFiles files from into failed result
+lists_files files found from into failed result are = by_result result
+  where
+    above : (ids : List Id16) → AreIdsAbove found from ids → AreFilesAbove files from ids
+    above ids a = record { ascending = a.ascending; there = λ (i : Id16). a.there i ∙ ap (λ (b : Bool). is_past from i && b) (are i) }
+
+    by_result : (result : Listed) → ListsFirst found from into result → ListAnswersFiles files from into failed result
+    by_result listed.More p = (p.0, above p.0 p.1, p.2, p.3)
+    by_result listed.End p = (above into p.0, p.1)
+    by_result listed.Failed p = absurd p
+    by_result listed.NoMemory p = p

@@ -27,7 +27,7 @@ pub struct DirStore<F> {
 }
 
 impl<F: Folder> DirStore<F> {
-    ghost use Rattle.bcv_dirstore.specs.Told.{faults_of, folder_of, CountsFault};
+    ghost use Rattle.bcv_dirstore.specs.Told.{faults_of, folder_of};
 
     /// A store in this folder, of whatever objects lie there.
     pub fn new(folder: F) -> DirStore<F>
@@ -52,14 +52,13 @@ impl<F: Folder> DirStore<F> {
         folder
     }
 
-    // Counts a request where it failed.
-    fn count(&mut self, failed: bool)
-        ensures counts { CountsFault (failed ≡ true) (faults_of self.old) (faults_of self.new) }
+    // Counts a request that failed.
+    fn count_fault(&mut self)
+        ensures counts { faults_of self.new ≡ one_more (faults_of self.old) }
+        ensures later { faults_of self.old ≤ faults_of self.new }
         ensures folder { folder_of self.new ≡ folder_of self.old }
     {
-        if failed {
-            self.faults = self.faults.saturating_add(1);
-        }
+        self.faults = self.faults.saturating_add(1);
     }
 }
 
@@ -159,9 +158,13 @@ impl<F: Folder> Store for DirStore<F> {
         ensures counts { CountsFault (result ≡ Got.Failed) (faults_of self.old) (faults_of self.new) }
     {
         into.clear();
-        let answer = get_locked(&mut self.folder, alloc, name, unless, into, most);
-        self.count(matches!(answer, Got::Failed));
-        answer
+        match get_locked(&mut self.folder, alloc, name, unless, into, most) {
+            Got::Failed => {
+                self.count_fault();
+                Got::Failed
+            }
+            answer => answer,
+        }
     }
 
     fn put(&mut self, alloc: Global, name: &ObjName, cond: Cond, bytes: &[u8]) -> Put
@@ -170,9 +173,13 @@ impl<F: Folder> Store for DirStore<F> {
         ensures files { F.told.tells → FolderPuts F.told (F.shown (folder_of self.old)) (F.shown (folder_of self.new)) name.now cond bytes.now result }
         ensures counts { CountsFault (result ≡ Put.Failed) (faults_of self.old) (faults_of self.new) }
     {
-        let answer = put_locked(&mut self.folder, alloc, name, cond, bytes);
-        self.count(matches!(answer, Put::Failed));
-        answer
+        match put_locked(&mut self.folder, alloc, name, cond, bytes) {
+            Put::Failed => {
+                self.count_fault();
+                Put::Failed
+            }
+            answer => answer,
+        }
     }
 
     // The moment of a deletion is kept in no file.
@@ -183,9 +190,13 @@ impl<F: Folder> Store for DirStore<F> {
         ensures counts { CountsFault (result ≡ Del.Failed) (faults_of self.old) (faults_of self.new) }
     {
         let _ = at;
-        let answer = delete_locked(&mut self.folder, alloc, name);
-        self.count(matches!(answer, Del::Failed));
-        answer
+        match delete_locked(&mut self.folder, alloc, name) {
+            Del::Failed => {
+                self.count_fault();
+                Del::Failed
+            }
+            answer => answer,
+        }
     }
 
     fn list(&mut self, alloc: Global, after: Option<&Id16>, into: &mut Vec<Id16>) -> Listed
@@ -195,9 +206,13 @@ impl<F: Folder> Store for DirStore<F> {
         ensures counts { CountsFault (result ≡ Listed.Failed) (faults_of self.old) (faults_of self.new) }
     {
         into.clear();
-        let answer = list_blocks(&mut self.folder, alloc, after, into);
-        self.count(matches!(answer, Listed::Failed));
-        answer
+        match list_blocks(&mut self.folder, alloc, after, into) {
+            Listed::Failed => {
+                self.count_fault();
+                Listed::Failed
+            }
+            answer => answer,
+        }
     }
 
     ghost rising = { λ store told. absurd told };

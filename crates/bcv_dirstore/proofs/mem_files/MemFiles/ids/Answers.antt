@@ -9,4 +9,4 @@ use Rattle.bcv_dirstore.proofs.mem_files.MemFiles.ids.Goals as goal
 pub returns : goal.returns
 returns c =
     let all = sym (append-nil c.loop-id.into.items) ∙ ap (λ (rest : List (Id16 × List ℕ)). c.loop-id.into.items ++ keys_of rest) (sym c.in-None.ensures.steps.0) ∙ c.loop-id.invariant in
-    λ (i : Id16). ap (has_id i) all ∙ has_key i c.args.self.now.blocks.entries
+    λ (i : Id16). ap (has_id i) all ∙ has_key i _
