@@ -1,18 +1,17 @@
 -- What a put answers, from what the file begins with and what its new contents leave.
-use Rattle.std.proofs.Common.{◌≡◌, ◌∙◌, ◌⊎◌, inl, inr, ⊎_elim, ℕ, true, false, List, ◌++◌, Option, Some, Result, Ok, Err, refl, sym, ap, subst}
+use Rattle.std.proofs.Common.{◌≡◌, ◌∙◌, inl, inr, ⊎_elim, ℕ, List, ◌++◌, Some, Ok, Err, ap}
 use Rattle.std.specs.Int.{w64, to_be_bytes}
 use Rattle.bcv_base.specs.declared.object.ObjName.{ObjName}
 use Rattle.bcv_base.specs.declared.object.ObjName.TheVariants as object
 use Rattle.bcv_store.specs.declared.store.Cond.{Cond}
 use Rattle.bcv_store.specs.declared.store.Put.{Put}
 use Rattle.bcv_store.specs.declared.store.Put.TheVariants as put
-use Rattle.bcv_dirstore.specs.declared.folder.FolderEnd.{FolderEnd}
-use Rattle.bcv_dirstore.specs.declared.folder.FolderEnd.TheVariants.{Done, Failed, NoMemory}
+use Rattle.bcv_dirstore.specs.declared.folder.FolderEnd.TheVariants.{Done}
 use Rattle.bcv_dirstore.specs.declared.folder.Front.{Front}
 use Rattle.bcv_dirstore.specs.declared.folder.Front.TheVariants as front
 use Rattle.bcv_dirstore.specs.FolderShown.{Files, FolderShown}
 use Rattle.bcv_dirstore.specs.Answers.{PutsFile, PutAnswersFile, IsSafe}
-use Rattle.bcv_dirstore.specs.Steps.{EtagsAsked, IsReplaced, Replaces}
+use Rattle.bcv_dirstore.specs.Steps.{EtagsAsked, Replaces}
 
 module _ (old : Files) (name : ObjName) (cond : Cond) (bytes : List ℕ) (failed : Type 0) where
   -- a put that goes no further than the front of the file

@@ -1,5 +1,5 @@
 -- What the requests to a store in a folder answer and change, where the folder tells its files.
-use Rattle.std.specs.Prelude.{◌≡◌, ◌⊎◌, ℕ, ◌+◌, ◌-◌, ◌^◌, ◌<◌, ◌≤◌, Bool, true, false, ◌&&◌, ◌||◌, ◌==◌, List, [], length, take, Option, Some, None}
+use Rattle.std.specs.Prelude.{◌≡◌, ◌⊎◌, ℕ, ◌+◌, ◌-◌, ◌^◌, ◌<◌, ◌≤◌, Bool, true, false, ◌&&◌, ◌||◌, ◌==◌, List, length, take, Option, Some, None}
 use Rattle.std.specs.Option.{is_some}
 use Rattle.bcv_base.specs.Faults.{Rose}
 use Rattle.bcv_base.specs.Ids.{has_id}

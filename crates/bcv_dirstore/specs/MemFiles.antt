@@ -3,7 +3,6 @@ use Rattle.std.specs.Prelude.{ℕ, List, Option}
 use Rattle.std.specs.Map.{lookup}
 use Rattle.std.specs.BTreeMap.{is_at}
 use Rattle.bcv_base.specs.declared.id.Id16.{Id16}
-use Rattle.bcv_base.specs.declared.object.ObjName.{ObjName}
 use Rattle.bcv_base.specs.declared.object.ObjName.TheVariants as object
 use Rattle.bcv_dirstore.specs.FolderShown.{Files}
 use Rattle.bcv_dirstore.specs.Index.{id_cmp}

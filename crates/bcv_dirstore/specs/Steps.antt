@@ -1,5 +1,5 @@
 -- The steps of a put: which etag it gives, and what the new contents leave.
-use Rattle.std.specs.Prelude.{◌≡◌, ◌⊎◌, ℕ, ◌^◌, ◌<◌, Bool, true, false, List, ◌++◌, Option, Some, Result, Ok, Err}
+use Rattle.std.specs.Prelude.{◌≡◌, ◌⊎◌, ℕ, ◌^◌, ◌<◌, true, false, List, ◌++◌, Option, Some, Result, Ok, Err}
 use Rattle.bcv_base.specs.declared.object.ObjName.{ObjName}
 use Rattle.bcv_store.specs.declared.store.Cond.{Cond}
 use Rattle.bcv_store.specs.declared.store.Put.{Put}

@@ -1,5 +1,5 @@
 -- What a store in a folder tells and shows as a store: nothing but how many requests have failed.
-use Rattle.std.specs.Prelude.{◌≡◌, ℕ, Bool, true, false, []}
+use Rattle.std.specs.Prelude.{◌≡◌, ℕ, []}
 use Rattle.bcv_base.specs.Plan.{one_more}
 use Rattle.bcv_store.specs.StoreShown.{StoreTold, StoreShown}
 use Rattle.bcv_dirstore.specs.declared.dir_store.DirStore.{DirStore}

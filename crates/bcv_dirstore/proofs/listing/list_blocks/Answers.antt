@@ -1,4 +1,4 @@
-use Rattle.std.proofs.Common.{◌≡◌, ◌∙◌, List, refl, sym, ap, subst}
+use Rattle.std.proofs.Common.{◌∙◌, List, refl, sym, subst}
 use Rattle.std.specs.Option.{option_copied}
 use Rattle.bcv_base.specs.declared.id.Id16.{Id16}
 use Rattle.bcv_base.specs.Faults.{Rose}
@@ -18,5 +18,5 @@ returns-in-Done-end-clause-files g c = λ told.
           lists_files (g.F.Folder.shown c.unlock.new.self).files c.blocks-end.new.into.items (option_copied c.args.after) c.first_ids.new.into.items
           (Rose (g.F.Folder.shown c.args.folder.now).faults (g.F.Folder.shown c.unlock.new.self).faults) c.first_ids.result
           (subst (λ (files : Files). AreBlocks files c.blocks-end.new.into.items) (sym same) (c.in-Done-end.ensures.blocks.are told refl))
-              (subst (λ (ids : List Id16). ListsFirst ids (option_copied c.args.after) c.first_ids.new.into.items c.first_ids.result) c.deref.ensures.value c.first_ids.ensures.listed);
+          (subst (λ (ids : List Id16). ListsFirst ids (option_copied c.args.after) c.first_ids.new.into.items c.first_ids.result) c.deref.ensures.value c.first_ids.ensures.listed);
     }

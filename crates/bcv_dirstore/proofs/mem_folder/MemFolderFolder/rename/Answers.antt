@@ -1,5 +1,4 @@
 use Rattle.std.proofs.Common.{◌≡◌, ◌∙◌, Bool, sym, ap, subst}
-use Rattle.bcv_dirstore.specs.declared.folder.FolderEnd.{FolderEnd}
 use Rattle.bcv_dirstore.specs.declared.folder.FolderEnd.TheVariants.{Failed, NoMemory}
 use Rattle.bcv_dirstore.specs.FolderCalls.{IsForeseen}
 use Rattle.bcv_dirstore.specs.MemFiles.{file_of}
