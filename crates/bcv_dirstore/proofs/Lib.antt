@@ -1,0 +1,4 @@
+pub mod Files
+pub mod FirstIds
+pub mod Putting
+pub mod Stored

@@ -1,0 +1,10 @@
+pub mod Answers
+pub mod FolderCalls
+pub mod FolderShown
+pub mod HostShown
+pub mod Index
+pub mod MemFiles
+pub mod MemShown
+pub mod ObjectFile
+pub mod Steps
+pub mod Told
