@@ -1,8 +1,8 @@
 -- What ties the open transactions and the cached entries to a log stays.
-use Rattle.std.proofs.Common.{◌≡◌, ◌∙◌, ◌==◌, ℕ, ◌+◌, ◌-◌, Bool, true, false, not, cond, nat_eq, List, [], ◌∷◌, ◌++◌, map, filter, find, Option, Some, None, IfSome, Result, Ok, Err, option_map, refl, sym, ap, subst, inl, inr}
+use Rattle.std.proofs.Common.{◌≡◌, ◌∙◌, ◌==◌, ℕ, ◌+◌, ◌-◌, ◌≤◌, min, Bool, true, false, not, cond, nat_eq, List, [], ◌∷◌, ◌++◌, map, filter, find, Option, Some, None, IfSome, Result, Ok, Err, option_map, refl, sym, ap, subst, inl, inr, arith}
 use Rattle.std.specs.declared.alloc.AllocError.{AllocError}
 use Rattle.std.specs.List.{AllByRecursion, IsDistinct, list_all}
-use Rattle.std.proofs.lemmas.Bool.{cases_Bool, eqb-true}
+use Rattle.std.proofs.lemmas.Bool.{cases_Bool, eqb-false, eqb-true}
 use Rattle.std.proofs.lemmas.Option.{same_Some}
 use Rattle.bcv_base.specs.declared.id.Id16.{Id16}
 use Rattle.bcv_base.specs.declared.log.Entry.{Entry as LogEntry}
@@ -28,6 +28,7 @@ use Rattle.bcv_clientstate.specs.SeenContainer.{HasBase}
 use Rattle.bcv_clientstate.proofs.Bases.{stays}
 use Rattle.bcv_clientstate.proofs.Growth.{all_kept, put_later, same_maps, some_kept}
 use Rattle.bcv_clientstate.proofs.KeyedMaps.{keyed_map}
+use Rattle.bcv_databases.specs.Changes.{least_of}
 use Rattle.bcv_dbmap.specs.Honest.{GrewHonestly}
 use Rattle.bcv_dbmap.specs.Sound.{IsSoundLog, Sound}
 use Rattle.bcv_dbmap.proofs.ManifestLaws.{images_stay}
@@ -58,10 +59,10 @@ use Rattle.bcv_transaction.specs.declared.answers.Freed.{Freed}
 use Rattle.bcv_transaction.specs.declared.answers.Freed.TheVariants as freed
 use Rattle.bcv_transaction.specs.declared.answers.Stepped.{Stepped}
 use Rattle.bcv_transaction.specs.declared.open_txn.OpenTxn.{OpenTxn}
-use Rattle.bcv_transaction.specs.FitLaws.{CachedAreFirst, CallsLeaveFit, FitsBase, GrowthLeavesFit, KeepsTxnView, LeavesFit, ViewsLeaveFit}
+use Rattle.bcv_transaction.specs.FitLaws.{CachedAreFirst, CallsLeaveFit, FitsBase, GrowthLeavesFit, KeepsTxnView, LeavesFit, OldestIsLeast, PartsAreSeen, ViewsLeaveFit}
 use Rattle.bcv_transaction.specs.ListCalls.{EndsIn, EndsOf, FreesIn, FreesOf, HoldsIn, HoldsOf, ReadsIn, ReadsOf}
-use Rattle.bcv_transaction.specs.MachineCalls.{AreFit, open_part, seen_txns}
-use Rattle.bcv_transaction.specs.Open.{AreOpen, AreOpenIn, AreOpenWith, Open, base_view, is_numbered, numbers_of, txn_at, view_in, with_txn, without_txn}
+use Rattle.bcv_transaction.specs.MachineCalls.{AreFit, open_part, open_parts, seen_txns}
+use Rattle.bcv_transaction.specs.Open.{AreOpen, AreOpenIn, AreOpenWith, Open, base_view, is_numbered, numbers_of, oldest_in, txn_at, view_in, with_txn, without_txn}
 use Rattle.bcv_transaction.specs.OpenCalls.{Begins, CacheCalls, CallsIn, OpensCache, begun_txn, cache_made, with_cache}
 use Rattle.bcv_transaction.specs.PageCalls.{FreesPage, HeldAs, HeldIn}
 use Rattle.bcv_transaction.specs.StepCalls.{GoesAfter, GoesOn, PageCalls, Steps, kept_out}
@@ -350,7 +351,7 @@ module _ (log more : List LogEntry) where
   fit_later sets o fit = record {
     txns = all_kept (λ (t : OpenTxn). FitsTxn (history_of log) (open_part sets t)) (λ (t : OpenTxn). FitsTxn (history_of (log ++ more)) (open_part sets t)) (txn_later sets) o.txns fit.txns;
     cached = some_kept (AllFit (history_of log)) (AllFit (history_of (log ++ more)))
-    (λ (c : Blocks). all_kept (FitsEntry (history_of log)) (FitsEntry (history_of (log ++ more))) entry_later c.entries) o.cache fit.cached;
+        (λ (c : Blocks). all_kept (FitsEntry (history_of log)) (FitsEntry (history_of (log ++ more))) entry_later c.entries) o.cache fit.cached;
   }
 
   -- a base has the same image
@@ -499,3 +500,54 @@ leaves_fit_by store old new now o n m shown same fact =
 
 pub nothing_done : (store : StoreTold) (old : StoreShown) (o : Open) → OverSoundLog store old old (λ mine. LeavesFit old old o o)
 nothing_done store old o = λ tells mine sound honest sets fit. fit
+
+-- ---- parts of a client
+
+parts_seen : (past : List Item) (sets : ℕ → Held) (ts : List OpenTxn) → map (seen_txn past) (open_parts sets ts) ≡ seen_txns past sets ts
+parts_seen past sets [] = refl
+parts_seen past sets (t ∷ ts) = ap (λ (xs : List Txn). seen_txn past (open_part sets t) ∷ xs) (parts_seen past sets ts)
+
+parts_fit : (past : List Item) (sets : ℕ → Held) (ts : List OpenTxn) → AllByRecursion (FitsTxn past) (open_parts sets ts) → TxnsFit past sets ts
+parts_fit past sets [] all = tt
+parts_fit past sets (t ∷ ts) all = (all.0, parts_fit past sets ts all.1)
+
+fit_parts : (past : List Item) (sets : ℕ → Held) (ts : List OpenTxn) → TxnsFit past sets ts → AllByRecursion (FitsTxn past) (open_parts sets ts)
+fit_parts past sets [] all = tt
+fit_parts past sets (t ∷ ts) all = (all.0, fit_parts past sets ts all.1)
+
+pub parts_are_seen : PartsAreSeen
+parts_are_seen = record { seen = parts_seen; fit = parts_fit; back = fit_parts }
+
+-- ---- the oldest number over a set
+
+least_none : (a : ℕ) (r : Option ℕ) → least_of (Some a) r ≡ None → ⊥
+least_none a None is = cc
+least_none a (Some b) is = cc
+
+over_oldest : (set : ℕ) (ts : List OpenTxn) (o : ℕ) → IfSome (oldest_in set ts) (λ (x : ℕ). o ≤ x) → AllByRecursion (λ (t : OpenTxn). t.set ≡ set → o ≤ t.txn.base.from) ts
+over_oldest set [] o le = tt
+over_oldest set (t ∷ ts) o le = elim (cases_Bool (t.set == set)) [
+  | inl b ↦ (let both = least_le t.txn.base.from o (oldest_in set ts) (subst (λ (c : Bool). IfSome (cond c (least_of (Some t.txn.base.from) (oldest_in set ts)) (oldest_in set ts)) (λ (x : ℕ). o ≤ x)) b le) in
+      ((λ same. both.0), over_oldest set ts o both.1))
+  | inr b ↦ (
+    (λ same. absurd (eqb-false t.set set b same)),
+    over_oldest set ts o (subst (λ (c : Bool). IfSome (cond c (least_of (Some t.txn.base.from) (oldest_in set ts)) (oldest_in set ts)) (λ (x : ℕ). o ≤ x)) b le),
+  )
+]
+  where
+    least_le : (a o : ℕ) (r : Option ℕ) → IfSome (least_of (Some a) r) (λ (x : ℕ). o ≤ x) → (o ≤ a) × IfSome r (λ (x : ℕ). o ≤ x)
+    least_le a o None le = (le, tt)
+    least_le a o (Some b) le = (omega (arith, le), omega (arith, le))
+
+none_over : (set : ℕ) (ts : List OpenTxn) → oldest_in set ts ≡ None → AllByRecursion (λ (t : OpenTxn). t.set ≡ set → ⊥) ts
+none_over set [] is = tt
+none_over set (t ∷ ts) is = elim (cases_Bool (t.set == set)) [
+  | inl b ↦ absurd (least_none t.txn.base.from (oldest_in set ts) (subst (λ (c : Bool). cond c (least_of (Some t.txn.base.from) (oldest_in set ts)) (oldest_in set ts) ≡ None) b is))
+  | inr b ↦ ((λ same. eqb-false t.set set b same), none_over set ts (subst (λ (c : Bool). cond c (least_of (Some t.txn.base.from) (oldest_in set ts)) (oldest_in set ts) ≡ None) b is))
+]
+
+pub oldest_is_least : OldestIsLeast
+oldest_is_least = record {
+  some = λ set ts o is. over_oldest set ts o (subst (λ (x : Option ℕ). IfSome x (λ (y : ℕ). o ≤ y)) (sym is) (omega arith));
+  none = none_over;
+}

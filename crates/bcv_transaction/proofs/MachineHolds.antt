@@ -176,5 +176,5 @@ all_holds past sets o s u c d n p pages r us cache opened stands set_of holds_it
         subst (λ (xs : List OpenTxn). Comes ToHold s u n p r (side_with past sets s u xs)) (sym some.2)
         (holds_so past sets t c d s u n p o.txns holds_page.0 holds_page.1 r some.0 i
         (λ id is. let at : TxnPlaces t.txn (view_in (sets t.set) t) c p (place.Absent id) holds_page.1 = subst (λ (y : Place). TxnPlaces t.txn (view_in (sets t.set) t) c p y holds_page.1) is holds_page.2 in
-            holds_seen past sets t s.container p (block ∙ sym own) ∙ not_held t.txn p id c.entries fits.is_txn pins at.1 at.2)
+        holds_seen past sets t s.container p (block ∙ sym own) ∙ not_held t.txn p id c.entries fits.is_txn pins at.1 at.2)
         (full_of_held past sets o s u c c cache opened opened.0 (same_size c c refl) stands) holds_page.2 holds_page.3)

@@ -35,7 +35,7 @@ pub seen_without : (past : List Item) (sets : ℕ → Held) (n : ℕ) (ts : List
 seen_without past sets n [] = refl
 seen_without past sets n (t ∷ ts) =
     elim (t.number == n) as (λ (b : Bool). seen_txns past sets (cond (not b) (t ∷ without_txn n ts) (without_txn n ts))
-        ≡ cond (not b) (seen past sets t ∷ filter (λ (x : Txn). not (x.number == n)) (seen_txns past sets ts)) (filter (λ (x : Txn). not (x.number == n)) (seen_txns past sets ts))) [
+    ≡ cond (not b) (seen past sets t ∷ filter (λ (x : Txn). not (x.number == n)) (seen_txns past sets ts)) (filter (λ (x : Txn). not (x.number == n)) (seen_txns past sets ts))) [
       | true ↦ seen_without past sets n ts
       | false ↦ ap (λ (xs : List Txn). seen past sets t ∷ xs) (seen_without past sets n ts)
     ]

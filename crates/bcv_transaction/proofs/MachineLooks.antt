@@ -76,9 +76,11 @@ module _ (past : List Item) (sets : ℕ → Held) (t : OpenTxn) (c : Blocks) (s 
   shown look.Zeros at same block page looks =
       let is = some_inside t.txn.base (view_in (sets t.set) t) p Added looks in
       let inside = outside_seen past sets t p false is.inside in
-      let local = local_seen past sets t p Added is.from in
-      (seen past sets t, at,
-      looked (reply.Page (zeros t.txn.base.entry.page_size)) None at (reasons false true inside (ap (λ (b : Bool). b || holds s.container (seen past sets t) p) local)) (page, same))
+      let local = local_seen past sets t p Added is.from in (
+        seen past sets t,
+        at,
+        looked (reply.Page (zeros t.txn.base.entry.page_size)) None at (reasons false true inside (ap (λ (b : Bool). b || holds s.container (seen past sets t) p) local)) (page, same),
+      )
   shown look.NotHeld at same block page looks =
       let is = some_inside t.txn.base (view_in (sets t.set) t) p FromBase looks.0 in
       let inside = outside_seen past sets t p false is.inside in

@@ -178,5 +178,5 @@ all_reads past sets o s u c d n p pages r cache opened after size stands set_of 
         in
         reads_so past sets t c d s u n p (side_with past sets s u o.txns) said.0 r (seen_at past sets n o.txns u stands.txns ∙ ap (option_map (seen past sets)) found) (side_same past sets s u o.txns stands.txns) page
         (λ id is. let at : TxnPlaces t.txn (view_in (sets t.set) t) c p (place.Absent id) d = subst (λ (x : Place). TxnPlaces t.txn (view_in (sets t.set) t) c p x d) is said.1 in
-            holds_seen past sets t s.container p (block ∙ sym own) ∙ not_held t.txn p id c.entries fits.is_txn pins at.1 at.2)
+        holds_seen past sets t s.container p (block ∙ sym own) ∙ not_held t.txn p id c.entries fits.is_txn pins at.1 at.2)
         (full_of_held past sets o s u c d cache opened after size stands) said.1 said.2

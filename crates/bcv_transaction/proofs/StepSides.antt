@@ -39,11 +39,11 @@ use Rattle.bcv_transaction.specs.declared.answers.Came.TheVariants as came
 use Rattle.bcv_transaction.specs.declared.answers.Stepped.{Stepped}
 use Rattle.bcv_transaction.specs.declared.answers.Stepped.TheVariants as stepped
 use Rattle.bcv_transaction.specs.declared.open_txn.OpenTxn.{OpenTxn}
-use Rattle.bcv_transaction.specs.MachineCalls.{Comes, IsSetOf, StandsFor, WantsTask, open_part, seen_txns, side_with}
+use Rattle.bcv_transaction.specs.MachineCalls.{Comes, HasContainer, IsSetOf, StandsFor, WantsTask, open_part, seen_txns, side_with}
 use Rattle.bcv_transaction.specs.Open.{AreOpen, AreOpenWith, Open, is_numbered, txn_at}
 use Rattle.bcv_transaction.specs.OpenCalls.{CallsIn}
 use Rattle.bcv_transaction.specs.StepCalls.{Brings, ComesAs, GoesAfter, GoesOn, IsAgain, OthersGrow, PageCalls, StepSays, StepTakes, Steps, Wants, kept_out}
-use Rattle.bcv_transaction.specs.StepSides.{HasContainer, StepSound, StepsAs, StepsSides}
+use Rattle.bcv_transaction.specs.StepSides.{StepSound, StepsAs, StepsSides}
 use Rattle.bcv_transaction.proofs.FetchMoves.{all_room_made}
 use Rattle.bcv_transaction.proofs.MachineLists.{seen, seen_at}
 use Rattle.bcv_transaction.proofs.MachinePages.{one_of}
@@ -182,6 +182,7 @@ at_once access store old pages o n p c r asked a is = record {
     no_own = refl;
     made = false;
     unmade = λ none. refl;
+    taken = λ made. absurd (cc);
     request = outcome.Ok;
     next = λ made. absurd (cc);
     steps = λ sets s u stands container set_of passes at under. comes_steps access s u n p at c r (side_with (history_of old.log) sets s u asked.txns) passes is (a.machine (history_of old.log) sets s u stands set_of);
@@ -280,10 +281,10 @@ module _ (access : Access) (store : StoreTold) (old new : StoreShown) (pages : H
   side_is f w g sets s u a = ap (side_with (history_of new.log) sets s u) (txns_are f w g) ∙ a.same
 
   -- a request was made over a sound log
-  made_sound : (mine : List Id16) (r : Stepped) (last : Open) (c d : Blocks) (f : Fetched) (b : BlockGetSound store mine old new id c f d) → StepsSides access (history_of new.log) pages o n p true b.outcome r last
+  made_sound : (mine : List Id16) (r : Stepped) (last : Open) (c d : Blocks) (f : Fetched) (b : BlockGetSound store mine old new id c f d) → TakesOutcome store old new → StepsSides access (history_of new.log) pages o n p true b.outcome r last
       → StepSound access store mine old new pages o n p r last
-  made_sound mine r last c d f b steps =
-      record { growth = b.growth; no_own = b.no_own; made = true; unmade = λ none. absurd (cc); request = b.outcome; next = λ made. b.next; steps = steps }
+  made_sound mine r last c d f b taken steps =
+      record { growth = b.growth; no_own = b.no_own; made = true; unmade = λ none. absurd (cc); taken = λ made. taken; request = b.outcome; next = λ made. b.next; steps = steps }
 
   -- the steps of an answer that keeps the block out
   kept_all : (f : Fetched) (r : Stepped) → kept_out f ≡ Some r → (w : Wanted f) → Steps access pages store old new o n p r got
@@ -303,11 +304,11 @@ module _ (access : Access) (store : StoreTold) (old new : StoreShown) (pages : H
     says = record { taken = g.gets.taken; later = g.gets.later; failed = λ fault. absurd (cc); told = others_grow store old new id g.before fetched.Gone g.after g.gets };
     sound = λ tells mine sound honest.
         let b = g.gets.sound tells mine sound honest in
-        made_sound mine stepped.Gone got g.before g.after fetched.Gone b
+        made_sound mine stepped.Gone got g.before g.after fetched.Gone b g.gets.taken
         (λ sets s u stands container set_of passes at under.
-            let a = sides fetched.Gone w sets s u stands set_of in
-            gone_steps access (history_of new.log) sets o s u n p id w.away.txn at (side_with (history_of new.log) sets s u got.txns) a container b.growth.sound (under refl ∙ b.ends.0) b.ends.1
-            (side_is fetched.Gone w g sets s u a));
+        let a = sides fetched.Gone w sets s u stands set_of in
+        gone_steps access (history_of new.log) sets o s u n p id w.away.txn at (side_with (history_of new.log) sets s u got.txns) a container b.growth.sound (under refl ∙ b.ends.0) b.ends.1
+        (side_is fetched.Gone w g sets s u a));
   }
 
   fault_is : (w : Wanted fetched.StoreFault) → Gets store old new id asked fetched.StoreFault got → StepIs access store old new pages o n p stepped.StoreFault got
@@ -316,12 +317,12 @@ module _ (access : Access) (store : StoreTold) (old new : StoreShown) (pages : H
     says = record { taken = g.gets.taken; later = g.gets.later; failed = λ fault. g.gets.failed refl; told = others_grow store old new id g.before fetched.StoreFault g.after g.gets };
     sound = λ tells mine sound honest.
         let b = g.gets.sound tells mine sound honest in
-        made_sound mine stepped.StoreFault got g.before g.after fetched.StoreFault b
+        made_sound mine stepped.StoreFault got g.before g.after fetched.StoreFault b g.gets.taken
         (λ sets s u stands container set_of passes at under.
-            let a = sides fetched.StoreFault w sets s u stands set_of in
-            subst (λ (x : Option Txn). FetchStepsOf access s u x p at reply.StoreFault (side_with (history_of new.log) sets s u got.txns)) (sym a.there)
-            (fault_at access s u (seen (history_of new.log) sets w.away.txn) p at (side_with (history_of new.log) sets s u got.txns) (λ ok. b.ends (sym (under refl) ∙ ok)) a.away
-            (side_is fetched.StoreFault w g sets s u a)));
+        let a = sides fetched.StoreFault w sets s u stands set_of in
+        subst (λ (x : Option Txn). FetchStepsOf access s u x p at reply.StoreFault (side_with (history_of new.log) sets s u got.txns)) (sym a.there)
+        (fault_at access s u (seen (history_of new.log) sets w.away.txn) p at (side_with (history_of new.log) sets s u got.txns) (λ ok. b.ends (sym (under refl) ∙ ok)) a.away
+        (side_is fetched.StoreFault w g sets s u a)));
   }
 
   bad_is : (len : ℕ) (w : Wanted (fetched.BadBlock len)) → Gets store old new id asked (fetched.BadBlock len) got → StepIs access store old new pages o n p (stepped.BadBlock len) got
@@ -330,11 +331,11 @@ module _ (access : Access) (store : StoreTold) (old new : StoreShown) (pages : H
     says = record { taken = g.gets.taken; later = g.gets.later; failed = λ fault. absurd (cc); told = others_grow store old new id g.before (fetched.BadBlock len) g.after g.gets };
     sound = λ tells mine sound honest.
         let b = g.gets.sound tells mine sound honest in
-        made_sound mine (stepped.BadBlock len) got g.before g.after (fetched.BadBlock len) b
+        made_sound mine (stepped.BadBlock len) got g.before g.after (fetched.BadBlock len) b g.gets.taken
         (λ sets s u stands container set_of passes at under.
-            let a = sides (fetched.BadBlock len) w sets s u stands set_of in
-            let own : w.away.txn.txn.base.block ≡ g.before.block = own_size pages o asked n p id w.away w.opened ∙ ap (λ (x : Blocks). x.block) (sym (cache_was (fetched.BadBlock len) w g)) in
-            absurd (not_other (history_of new.log) sets w.away.txn id len g.before.block a.fits a.listed own b.ends.1 b.ends.2));
+        let a = sides (fetched.BadBlock len) w sets s u stands set_of in
+        let own : w.away.txn.txn.base.block ≡ g.before.block = own_size pages o asked n p id w.away w.opened ∙ ap (λ (x : Blocks). x.block) (sym (cache_was (fetched.BadBlock len) w g)) in
+        absurd (not_other (history_of new.log) sets w.away.txn id len g.before.block a.fits a.listed own b.ends.1 b.ends.2));
   }
 
   out_of_memory : (w : Wanted fetched.NoMemory) → Gets store old new id asked fetched.NoMemory got → StepIs access store old new pages o n p stepped.NoMemory got
@@ -348,9 +349,9 @@ module _ (access : Access) (store : StoreTold) (old new : StoreShown) (pages : H
       rests sets s u stands container set_of passes at under = side_is fetched.NoMemory w g sets s u (sides fetched.NoMemory w sets s u stands set_of)
 
       by : {mine : List Id16} → BlockGetSound store mine old new id g.before fetched.NoMemory g.after → MayTakeOutcome store old new → StepSound access store mine old new pages o n p stepped.NoMemory got
-      by {mine = mine} b (inl taken) = made_sound mine stepped.NoMemory got g.before g.after fetched.NoMemory b (λ sets s u stands container set_of passes at under. rests sets s u stands container set_of passes at (λ made. absurd (cc)))
+      by {mine = mine} b (inl taken) = made_sound mine stepped.NoMemory got g.before g.after fetched.NoMemory b taken (λ sets s u stands container set_of passes at under. rests sets s u stands container set_of passes at (λ made. absurd (cc)))
       by {mine = mine} b (inr same) =
-          record { growth = b.growth; no_own = b.no_own; made = false; unmade = λ none. same; request = outcome.Ok; next = λ made. absurd (cc); steps = rests }
+          record { growth = b.growth; no_own = b.no_own; made = false; unmade = λ none. same; taken = λ made. absurd (cc); request = outcome.Ok; next = λ made. absurd (cc); steps = rests }
 
   pub kept_is : (f : Fetched) (r : Stepped) → kept_out f ≡ Some r → IsAsked access pages o n p (came.Absent id) asked → AreOpen o → IsAway pages o n p id asked → Brings store old new id asked f got
       → StepIs access store old new pages o n p r got
@@ -413,11 +414,11 @@ module _ (access : Access) (store : StoreTold) (old new : StoreShown) (pages : H
         };
         sound = λ tells mine sound honest.
             let b = g.gets.sound tells mine sound honest in
-            made_sound mine r last g.before g.after (fetched.In slot) b
+            made_sound mine r last g.before g.after (fetched.In slot) b g.gets.taken
             (λ sets s u stands container set_of passes at under.
-                let after : StandsFor (history_of new.log) sets got s u = stands_then slot w g b.ends.0 sets s u b.ends.2 b.ends.4 stands in
-                let same_set : IsSetOf pages sets n got.txns = subst (IsSetOf pages sets n) (sym (txns_are (fetched.In slot) w g)) set_of in
-                comes_steps access s u n p at c r (side_with (history_of new.log) sets s u last.txns) passes is (second.machine (history_of new.log) sets s u after same_set));
+            let after : StandsFor (history_of new.log) sets got s u = stands_then slot w g b.ends.0 sets s u b.ends.2 b.ends.4 stands in
+            let same_set : IsSetOf pages sets n got.txns = subst (IsSetOf pages sets n) (sym (txns_are (fetched.In slot) w g)) set_of in
+            comes_steps access s u n p at c r (side_with (history_of new.log) sets s u last.txns) passes is (second.machine (history_of new.log) sets s u after same_set));
       }
 
 -- ---- the answers of the private calls

@@ -47,14 +47,14 @@ unfolding IsDistinct
 split_at n [] at x get e d = absurd (cc)
 split_at n (t ∷ ts) zero x get e d = elim (cases_Bool (is_numbered n t)) [
   | inl is ↦ (let same : t ≡ x = cc in record {
-      front = [];
-      back = ts;
-      split = ap (λ (y : OpenTxn). y ∷ ts) same;
-      place = refl;
-      number = ap (λ (y : OpenTxn). y.number) (sym same) ∙ eqb-true t.number n is;
-      before = tt;
-      after = others_differ n t.number ts (eqb-true t.number n is) d.0;
-    })
+    front = [];
+    back = ts;
+    split = ap (λ (y : OpenTxn). y ∷ ts) same;
+    place = refl;
+    number = ap (λ (y : OpenTxn). y.number) (sym same) ∙ eqb-true t.number n is;
+    before = tt;
+    after = others_differ n t.number ts (eqb-true t.number n is) d.0;
+  })
   | inr is ↦ (let more = first_is_not n t ts is in absurd (omega (arith, more, e)))
 ]
 split_at n (t ∷ ts) (suc k) x get e d = elim (cases_Bool (is_numbered n t)) [

@@ -32,6 +32,10 @@ use Rattle.bcv_transaction.specs.Open.{Open, base_view, txn_at, view_in}
 abbrev pub open_part : (ℕ → Held) → OpenTxn → parts.OpenTxn
 open_part sets t = record { number = t.number; txn = t.txn; view = view_in (sets t.set) t }
 
+-- each with the commits of its view
+abbrev pub open_parts : (ℕ → Held) → List OpenTxn → List parts.OpenTxn
+open_parts sets ts = map (open_part sets) ts
+
 abbrev pub seen_txns : List Item → (ℕ → Held) → List OpenTxn → List Txn
 seen_txns past sets ts = map (λ (t : OpenTxn). seen_txn past (open_part sets t)) ts
 
@@ -52,6 +56,10 @@ pub record StandsFor (past : List Item) (sets : ℕ → Held) (o : Open) (s : Si
   pub txns : u.txns ≡ seen_txns past sets o.txns
   pub block : IfSome o.cache (λ (c : Blocks). s.container.block ≡ c.block)
   pub slots : s.client.slots ≡ o.slots
+
+-- what all clients share is so in this log
+abbrev pub HasContainer : List Item → Side → Type 0
+HasContainer past s = s.container ≡ container_of s.container.moment past
 
 -- the side with these transactions
 abbrev pub side_with : List Item → (ℕ → Held) → Side → Up → List OpenTxn → Side
@@ -114,6 +122,6 @@ BeginsAs s u db begun.NoMemory t = t ≡ with_up s u
 
 -- the base of a begin is that of a known database's view, in its version
 pub record IsKnownBase (past : List Item) (s : Side) (u : Up) (base : TxnBase) (pages : Held) : Type 0 where
-  pub container : s.container ≡ container_of s.container.moment past
+  pub container : HasContainer past s
   pub base_is : HasBase past base.number base.block base.entry
   pub view : view_of s.client.kept u base.entry.name ≡ Some (record { base = base.number; commits = base_view pages base })

@@ -20,5 +20,5 @@ mod transactions;
 mod txn_list;
 
 pub use answers::{Begun, Came, Freed, Stepped};
-pub use laws::calls_keep_fits;
+pub use laws::{calls_keep_fits, oldest_is_least, transactions_are_parts};
 pub use transactions::Transactions;

@@ -26,7 +26,8 @@ pub(crate) fn read_page(
     requires view { CanView pages.now txn.now.base.from txn.now.base.to }
     requires block { cache.old.block ≡ txn.now.base.block }
     requires pins { HasPins txn.now.held cache.old.entries }
-    ensures reads { ReadsPage txn.now (view_of pages.now txn.now.base.from txn.now.base.to) cache.old page result cache.new }
+    ensures reads { ReadsPage txn.now (view_of pages.now txn.now.base.from txn.now.base.to) cache.old
+        page result cache.new }
     ensures stay { KeepsEntries cache.old.entries cache.new.entries }
 {
     match txn.place(pages, cache, page) {
@@ -39,16 +40,12 @@ pub(crate) fn read_page(
 }
 
 /// Holds the block of a page; of a local page nothing is held. A cached block that it lies in becomes the most recent one.
-pub(crate) fn hold_page(
-    txn: &mut Txn,
-    pages: &PageSet,
-    cache: &mut BlockCache,
-    page: u32,
-) -> Came
+pub(crate) fn hold_page(txn: &mut Txn, pages: &PageSet, cache: &mut BlockCache, page: u32) -> Came
     requires view { CanView pages.now txn.old.base.from txn.old.base.to }
     requires block { cache.old.block ≡ txn.old.base.block }
     requires few { (slot : ℕ) → pin_count slot cache.old.entries < 4294967295 }
-    ensures holds { HoldsPage txn.old (view_of pages.now txn.old.base.from txn.old.base.to) cache.old page result txn.new cache.new }
+    ensures holds { HoldsPage txn.old (view_of pages.now txn.old.base.from txn.old.base.to) cache.old
+        page result txn.new cache.new }
     ensures pins { KeepsPins txn.old.held cache.old.entries txn.new.held cache.new.entries }
     ensures txn { IsTxn txn.old → IsTxn txn.new }
 {
@@ -99,8 +96,11 @@ fn local_page(alloc: Global, txn: &Txn, pages: &PageSet, cache: &BlockCache, pag
     requires view { CanView pages.now txn.now.base.from txn.now.base.to }
     requires block { cache.now.block ≡ txn.now.base.block }
     requires pins { HasPins txn.now.held cache.now.entries }
-    requires local { (bytes : Page) × (source_of txn.now.base (view_of pages.now txn.now.base.from txn.now.base.to) page ≡ Some (Wrote bytes)) }
-    ensures { (bytes : Page) × (source_of txn.now.base (view_of pages.now txn.now.base.from txn.now.base.to) page ≡ Some (Wrote bytes)) × IsCopy bytes result }
+    requires local { (bytes : Page)
+        × (source_of txn.now.base (view_of pages.now txn.now.base.from txn.now.base.to) page ≡ Some (Wrote bytes)) }
+    ensures { (bytes : Page)
+        × (source_of txn.now.base (view_of pages.now txn.now.base.from txn.now.base.to) page ≡ Some (Wrote bytes))
+        × IsCopy bytes result }
 {
     match txn.look(pages, cache, page) {
         Look::Page(bytes) => copied(alloc, bytes),

@@ -29,11 +29,13 @@ impl Transactions {
     ) -> Stepped
         requires view { IfSome (txn_at number self.old.txns) (CanRead pages.now) }
         requires block { IfSome self.old.cache (λ c. c.block ≡ block) }
-        ensures steps { Steps ToRead pages.now S.told (S.shown store.old) (S.shown store.new) self.old number page result self.new }
+        ensures steps { Steps ToRead pages.now S.told (S.shown store.old) (S.shown store.new)
+            self.old number page result self.new }
         ensures are_open { AreOpen self.new }
         ensures says { StepSays S.told (S.shown store.old) (S.shown store.new) result }
         ensures sound { OverSoundLog S.told (S.shown store.old) (S.shown store.new)
-            (λ mine. StepSound ToRead S.told mine (S.shown store.old) (S.shown store.new) pages.now self.old number page result self.new) }
+            (λ mine. StepSound ToRead S.told mine (S.shown store.old) (S.shown store.new)
+            pages.now self.old number page result self.new) }
         ensures fit { OverSoundLog S.told (S.shown store.old) (S.shown store.new)
             (λ mine. LeavesFit (S.shown store.old) (S.shown store.new) self.old self.new) }
         ensures reached { S.reaches store.old store.new }
@@ -62,11 +64,13 @@ impl Transactions {
     ) -> Stepped
         requires view { IfSome (txn_at number self.old.txns) (CanRead pages.now) }
         requires block { IfSome self.old.cache (λ c. c.block ≡ block) }
-        ensures steps { Steps ToHold pages.now S.told (S.shown store.old) (S.shown store.new) self.old number page result self.new }
+        ensures steps { Steps ToHold pages.now S.told (S.shown store.old) (S.shown store.new)
+            self.old number page result self.new }
         ensures are_open { AreOpen self.new }
         ensures says { StepSays S.told (S.shown store.old) (S.shown store.new) result }
         ensures sound { OverSoundLog S.told (S.shown store.old) (S.shown store.new)
-            (λ mine. StepSound ToHold S.told mine (S.shown store.old) (S.shown store.new) pages.now self.old number page result self.new) }
+            (λ mine. StepSound ToHold S.told mine (S.shown store.old) (S.shown store.new)
+            pages.now self.old number page result self.new) }
         ensures fit { OverSoundLog S.told (S.shown store.old) (S.shown store.new)
             (λ mine. LeavesFit (S.shown store.old) (S.shown store.new) self.old self.new) }
         ensures reached { S.reaches store.old store.new }

@@ -31,8 +31,8 @@ use crate::answers::{Begun, Came, Freed};
 use crate::numbers::{MOST_TXNS, least_free};
 use crate::open_txn::OpenTxn;
 use crate::txn_list::{
-    base_of, end_every, end_in, fetch_in, free_in, hold_in, look_in, oldest_of, push_txn, read_in, set_of,
-    upload_in,
+    base_of, end_every, end_in, fetch_in, free_in, hold_in, look_in, oldest_of, push_txn, read_in,
+    set_of, upload_in,
 };
 use bcv_base::{Id16, Names, Seen, TxnBase};
 use bcv_cache::BlockCache;
@@ -48,7 +48,7 @@ use std::marker::Model;
 pub struct Transactions {
     slots: u16,
     cache: Option<BlockCache>,
-    open: Vec<OpenTxn>,
+    txns: Vec<OpenTxn>,
 }
 
 impl Model for Transactions {
@@ -56,9 +56,9 @@ impl Model for Transactions {
 
     ghost Value = { Open };
 
-    ghost view = { λ t. record { slots = t.slots; cache = t.cache; txns = t.open.items } };
+    ghost view = { λ t. record { slots = t.slots; cache = t.cache; txns = t.txns.items } };
 
-    ghost invariant = { λ t. AreOpen (record { slots = t.slots; cache = t.cache; txns = t.open.items }) };
+    ghost invariant = { λ t. AreOpen (record { slots = t.slots; cache = t.cache; txns = t.txns.items }) };
 }
 
 impl Transactions {
@@ -70,7 +70,7 @@ impl Transactions {
         Transactions {
             slots,
             cache: None,
-            open: Vec::new(alloc),
+            txns: Vec::new(alloc),
         }
     }
 
@@ -92,28 +92,28 @@ impl Transactions {
         ensures full { result ≡ nat_le 64 (length self.now.txns) }
         ensures are_open { AreOpen self.now }
     {
-        self.open.len() >= MOST_TXNS
+        self.txns.len() >= MOST_TXNS
     }
 
     /// What a transaction reads from, or `None` where it is not open.
     pub fn opened(&self, number: u8) -> Option<&TxnBase>
         ensures { option_copied result ≡ base_in number self.now.txns }
     {
-        base_of(&self.open, number)
+        base_of(&self.txns, number)
     }
 
     /// The number of the set that a transaction reads, or `None` where it is not open.
     pub fn set_of(&self, number: u8) -> Option<usize>
         ensures { result ≡ set_in number self.now.txns }
     {
-        set_of(&self.open, number)
+        set_of(&self.txns, number)
     }
 
     /// The least number after which the commits of a transaction over a set begin, or `None` where none is over the set.
     pub fn oldest(&self, set: usize) -> Option<u64>
         ensures { result ≡ oldest_in set self.now.txns }
     {
-        oldest_of(&self.open, set)
+        oldest_of(&self.txns, set)
     }
 
     /// Begins a transaction over a base whose commits are in `pages`, the set of the number `set`. It holds no block.
@@ -126,21 +126,22 @@ impl Transactions {
         ensures begins { Begins self.old base set pages.now result self.new }
         ensures are_open { AreOpen self.new }
         ensures machine { (past : List Item) (sets : ℕ → Held) (s : Side) (u : Up)
-            → StandsFor past sets self.old s u → sets set ≡ pages.now → IsKnownBase past s u base pages.now
+            → StandsFor past sets self.old s u → sets set ≡ pages.now
+            → IsKnownBase past s u base pages.now
             → BeginsAs s u base.entry.name result (side_with past sets s u self.new.txns) }
     {
-        if self.open.len() >= MOST_TXNS {
+        if self.txns.len() >= MOST_TXNS {
             return Begun::TooMany;
         }
         if self.open_cache(alloc, base.block).is_err() {
             return Begun::NoMemory;
         }
-        if self.open.reserve(1).is_err() {
+        if self.txns.reserve(1).is_err() {
             return Begun::NoMemory;
         }
-        let number = least_free(&self.open);
+        let number = least_free(&self.txns);
         let txn = Txn::begin(alloc, base, pages);
-        push_txn(&mut self.open, OpenTxn { number, set, txn });
+        push_txn(&mut self.txns, OpenTxn { number, set, txn });
         Begun::Number(number)
     }
 
@@ -157,7 +158,7 @@ impl Transactions {
             → Comes ToRead s u number page result (side_with past sets s u self.new.txns) }
     {
         match &mut self.cache {
-            Some(cache) => read_in(alloc, &self.open, cache, number, page, pages),
+            Some(cache) => read_in(alloc, &self.txns, cache, number, page, pages),
             None => Came::NoTxn,
         }
     }
@@ -174,23 +175,18 @@ impl Transactions {
             → Comes ToHold s u number page result (side_with past sets s u self.new.txns) }
     {
         match &mut self.cache {
-            Some(cache) => hold_in(&mut self.open, cache, number, page, pages),
+            Some(cache) => hold_in(&mut self.txns, cache, number, page, pages),
             None => Came::NoTxn,
         }
     }
 
     /// Brings a block of `block` bytes into the cache, whose id a read or a hold answered, by one get. A block that came in
     /// meanwhile is found without a request. Before the cache is made none can come in.
-    pub fn fetch<S: Store>(
-        &mut self,
-        alloc: Global,
-        store: &mut S,
-        id: Id16,
-        block: u32,
-    ) -> Fetched
+    pub fn fetch<S: Store>(&mut self, alloc: Global, store: &mut S, id: Id16, block: u32) -> Fetched
         requires block { IfSome self.old.cache (λ c. c.block ≡ block) }
         ensures fetches { CallsIn self.old self.new (result ≡ Fetched.CacheFull)
-            (λ c d. BlockFetches (slot_of id c.entries) (has_room c) S.told (S.shown store.old) (S.shown store.new) id c result d) }
+            (λ c d. BlockFetches (slot_of id c.entries) (has_room c) S.told
+            (S.shown store.old) (S.shown store.new) id c result d) }
         ensures same { self.new.txns ≡ self.old.txns }
         ensures are_open { AreOpen self.new }
         ensures fit { OverSoundLog S.told (S.shown store.old) (S.shown store.new)
@@ -198,7 +194,7 @@ impl Transactions {
         ensures reached { S.reaches store.old store.new }
     {
         match &mut self.cache {
-            Some(cache) => fetch_in(alloc, store, &self.open, cache, id, block),
+            Some(cache) => fetch_in(alloc, store, &self.txns, cache, id, block),
             None => Fetched::CacheFull,
         }
     }
@@ -220,10 +216,12 @@ impl Transactions {
         requires seen { seen.now.block ≡ Some task.old.base.block }
         requires same_block { IfSome self.old.cache (λ c. c.block ≡ task.old.base.block) }
         ensures uploads { Uploads S.told seen.now (view_in pages.now task.old.base) self.old
-            (record { store = S.shown store.old; names = N.shown names.old; upload = task.old }) result self.new
+            (record { store = S.shown store.old; names = N.shown names.old; upload = task.old })
+            result self.new
             (record { store = S.shown store.new; names = N.shown names.new; upload = task.new }) }
         ensures are_open { AreOpen self.new }
-        ensures fit { (past : List Item) (sets : ℕ → Held) → AreFit past sets self.old → AreFit past sets self.new }
+        ensures fit { (past : List Item) (sets : ℕ → Held)
+            → AreFit past sets self.old → AreFit past sets self.new }
         ensures running { IsRunning task.new }
         ensures reached { S.reaches store.old store.new }
     {
@@ -235,7 +233,7 @@ impl Transactions {
             return Work::NoMemory;
         }
         match &mut self.cache {
-            Some(cache) => upload_in(alloc, store, names, task, seen, pages, &self.open, cache),
+            Some(cache) => upload_in(alloc, store, names, task, seen, pages, &self.txns, cache),
             None => unreachable!(),
         }
     }
@@ -250,7 +248,7 @@ impl Transactions {
             → LooksAs s u number page result (side_with past sets s u self.now.txns) }
     {
         match &self.cache {
-            Some(cache) => look_in(&self.open, cache, number, page, pages),
+            Some(cache) => look_in(&self.txns, cache, number, page, pages),
             None => Look::NoTxn,
         }
     }
@@ -265,7 +263,7 @@ impl Transactions {
             → FreesAs s u number page result (side_with past sets s u self.new.txns) }
     {
         match &mut self.cache {
-            Some(cache) => free_in(&mut self.open, cache, number, page),
+            Some(cache) => free_in(&mut self.txns, cache, number, page),
             None => Freed::NoTxn,
         }
     }
@@ -279,7 +277,7 @@ impl Transactions {
             → StandsFor past sets self.old s u → EndsAs past sets s u number result self.new.txns }
     {
         match &mut self.cache {
-            Some(cache) => end_in(&mut self.open, cache, number),
+            Some(cache) => end_in(&mut self.txns, cache, number),
             None => false,
         }
     }
@@ -290,11 +288,11 @@ impl Drop for Transactions {
         let Transactions {
             slots: _,
             cache,
-            open,
+            txns,
         } = self;
         match cache {
-            Some(mut cache) => end_every(open, &mut cache),
-            None => open.destroy_empty(),
+            Some(mut cache) => end_every(txns, &mut cache),
+            None => txns.destroy_empty(),
         }
     }
 }

@@ -125,12 +125,7 @@ pub(crate) fn look_in<'a>(
 }
 
 /// Lets the block of a page of the transaction of a number go.
-pub(crate) fn free_in(
-    txns: &mut [OpenTxn],
-    cache: &mut BlockCache,
-    number: u8,
-    page: u32,
-) -> Freed
+pub(crate) fn free_in(txns: &mut [OpenTxn], cache: &mut BlockCache, number: u8, page: u32) -> Freed
     requires are_open { AreOpenIn cache.old txns.old }
     ensures frees { FreesIn cache.old txns.old number page result txns.new cache.new }
     ensures are_open { AreOpenIn cache.new txns.new }
@@ -167,11 +162,13 @@ pub(crate) fn end_in(txns: &mut Vec<OpenTxn>, cache: &mut BlockCache, number: u8
 pub(crate) fn end_every(mut txns: Vec<OpenTxn>, cache: &mut BlockCache)
     requires { AreOpenIn cache.old txns.items }
 {
-    while let Some(OpenTxn {
-        number: _,
-        set: _,
-        txn,
-    }) = txns.pop()
+    while let Some(
+        OpenTxn {
+            number: _,
+            set: _,
+            txn,
+        },
+    ) = txns.pop()
     {
         txn.end(cache);
     }
@@ -200,8 +197,8 @@ pub(crate) fn fetch_in<S: Store>(
 ) -> Fetched
     requires are_open { AreOpenIn cache.old txns.now }
     requires block { cache.old.block ≡ block }
-    ensures fetches { BlockFetches (slot_of id cache.old.entries) (has_room cache.old) S.told (S.shown store.old)
-        (S.shown store.new) id cache.old result cache.new }
+    ensures fetches { BlockFetches (slot_of id cache.old.entries) (has_room cache.old) S.told
+        (S.shown store.old) (S.shown store.new) id cache.old result cache.new }
     ensures are_open { AreOpenIn cache.new txns.now }
     ensures size { SameSize cache.old cache.new }
     ensures reached { S.reaches store.old store.new }
@@ -229,7 +226,8 @@ pub(crate) fn upload_in<S: Store, N: Names>(
     requires block { cache.old.block ≡ task.old.base.block }
     ensures works { UploadWorks S.told seen.now (view_in pages.now task.old.base)
         (record { store = S.shown store.old; names = N.shown names.old; upload = task.old }) result
-        (record { store = S.shown store.new; names = N.shown names.new; upload = task.new }) cache.old cache.new }
+        (record { store = S.shown store.new; names = N.shown names.new; upload = task.new })
+        cache.old cache.new }
     ensures are_open { AreOpenIn cache.new txns.now }
     ensures size { SameSize cache.old cache.new }
     ensures running { IsRunning task.new }

@@ -22,7 +22,7 @@ grown c =
     let made = made_by o c.open_cache.new.self block c.open_cache.result c.open_cache.ensures.made (sym c.is_err.ensures.value ∙ c.if-is_err.false) in
     let is : c.self-2.inside.cache ≡ Some d = ap (λ (x : Open). x.cache) c.self-2.view_is ∙ ap (λ (x : Open). x.cache) made in
     let t : OpenTxn = record { number = c.least_free-number.result; set = c.args.set; txn = c.begin-txn.result } in
-    let ts = c.self-2.inside.open.items in
+    let ts = c.self-2.inside.txns.items in
     let same : c.reserve.new.self.items ≡ ts = c.reserve.ensures.items in
     begun_with c.self-2.inside.slots c.self-2.inside.cache d ts c.push_txn.new.txns.items t c.self-2.invariant is (c.push_txn.ensures ∙ ap (λ (xs : List OpenTxn). xs ++ t ∷ []) same)
     (record {
@@ -43,9 +43,9 @@ returns-clause-are_open c = grown c
 -- no 64 transactions were open
 few : (c : goal.After-push_txn) → nat_le 64 (length c.args.self.now.txns) ≡ false
 few c =
-    let is : c.self.inside.open.items ≡ c.args.self.now.txns = ap (λ (x : Open). x.txns) c.self.view_is in
-    let below : length c.self.inside.open.items < 64 = omega (arith, c.if-len-ge-MOST_TXNS.false, c.len.ensures) in
-    ap (λ (xs : List OpenTxn). nat_le 64 (length xs)) (sym is) ∙ lt-leb 64 (length c.self.inside.open.items) below
+    let is : c.self.inside.txns.items ≡ c.args.self.now.txns = ap (λ (x : Open). x.txns) c.self.view_is in
+    let below : length c.self.inside.txns.items < 64 = omega (arith, c.if-len-ge-MOST_TXNS.false, c.len.ensures) in
+    ap (λ (xs : List OpenTxn). nat_le 64 (length xs)) (sym is) ∙ lt-leb 64 (length c.self.inside.txns.items) below
 
 pub returns-clause-machine : goal.returns-clause-machine
 returns-clause-machine c = λ past sets s u stands same known.

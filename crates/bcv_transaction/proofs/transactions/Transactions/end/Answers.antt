@@ -7,5 +7,5 @@ use Rattle.bcv_transaction.proofs.transactions.Transactions.end.Goals as goal
 
 pub returns-in-Some-clause-machine : goal.returns-in-Some-clause-machine
 returns-in-Some-clause-machine c = λ past sets s u stands.
-    ends past sets s u c.args.number c.self.inside.open.items c.end_in.new.txns.items c.in-Some.cache c.end_in.new.cache c.end_in.result (txn_at c.args.number c.self.inside.open.items)
+    ends past sets s u c.args.number c.self.inside.txns.items c.end_in.new.txns.items c.in-Some.cache c.end_in.new.cache c.end_in.result (txn_at c.args.number c.self.inside.txns.items)
     (subst (λ (o : Open). u.txns ≡ seen_txns past sets o.txns) (sym c.self.view_is) stands.txns) refl c.end_in.ensures.ends

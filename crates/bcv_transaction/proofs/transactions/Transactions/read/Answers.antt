@@ -22,14 +22,14 @@ returns-clause-machine c = λ past sets s u stands set_of. elim c.match-self.bra
       let main = all_reads past sets o s u w.in-Some.cache w.read_in.new.cache c.args.number c.args.page c.args.pages.now w.read_in.result cache opened after w.read_in.ensures.size stands set_of c.requires
       (subst (λ (ts : List OpenTxn). ReadsIn c.args.pages.now w.in-Some.cache ts c.args.number c.args.page w.read_in.result w.read_in.new.cache) txns w.read_in.ensures.reads)
       in
-      let items : c.match-self.self-inside.open.items ≡ o.txns = ap (λ x. x.open.items) w.self-inside-is ∙ ap (λ (x : Open). x.txns) c.self.view_is in
-      subst (λ (r : Came). Comes ToRead s u c.args.number c.args.page r (side_with past sets s u c.match-self.self-inside.open.items)) (sym w.result-is)
+      let items : c.match-self.self-inside.txns.items ≡ o.txns = ap (λ x. x.txns.items) w.self-inside-is ∙ ap (λ (x : Open). x.txns) c.self.view_is in
+      subst (λ (r : Came). Comes ToRead s u c.args.number c.args.page r (side_with past sets s u c.match-self.self-inside.txns.items)) (sym w.result-is)
       (subst (λ (xs : List OpenTxn). Comes ToRead s u c.args.number c.args.page w.read_in.result (side_with past sets s u xs)) (sym items) main))
   | in-None w ↦ (let o = c.args.self.now in
-      let empty : c.self.inside.open.items ≡ [] = subst (λ (x : Option Blocks). AreOpenWith c.self.inside.slots x c.self.inside.open.items) w.in-None.is c.self.invariant in
+      let empty : c.self.inside.txns.items ≡ [] = subst (λ (x : Option Blocks). AreOpenWith c.self.inside.slots x c.self.inside.txns.items) w.in-None.is c.self.invariant in
       let none : o.txns ≡ [] = sym (ap (λ (x : Open). x.txns) c.self.view_is) ∙ empty in
       let main = none_comes ToRead past sets o.txns s u c.args.number c.args.page stands.txns (subst (λ (xs : List OpenTxn). txn_at c.args.number xs ≡ None) (sym none) refl) in
-      let items : c.match-self.self-inside.open.items ≡ o.txns = ap (λ x. x.open.items) w.self-inside-is ∙ ap (λ (x : Open). x.txns) c.self.view_is in
-      subst (λ (r : Came). Comes ToRead s u c.args.number c.args.page r (side_with past sets s u c.match-self.self-inside.open.items)) (sym w.result-is)
+      let items : c.match-self.self-inside.txns.items ≡ o.txns = ap (λ x. x.txns.items) w.self-inside-is ∙ ap (λ (x : Open). x.txns) c.self.view_is in
+      subst (λ (r : Came). Comes ToRead s u c.args.number c.args.page r (side_with past sets s u c.match-self.self-inside.txns.items)) (sym w.result-is)
       (subst (λ (xs : List OpenTxn). Comes ToRead s u c.args.number c.args.page came.NoTxn (side_with past sets s u xs)) (sym items) main))
 ]

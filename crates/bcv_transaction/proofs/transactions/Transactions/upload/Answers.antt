@@ -14,35 +14,35 @@ returns-then-is_err-clause-uploads g c =
 
 pub upload_in-requires-clause-are_open : goal.upload_in-requires-clause-are_open
 upload_in-requires-clause-are_open g c =
-    over_cache c.self.inside.slots c.self.inside.cache c.self.inside.open.items c.deref.result.now c.in-Some-cache.cache c.self.invariant c.in-Some-cache.is c.deref.ensures.value
+    over_cache c.self.inside.slots c.self.inside.cache c.self.inside.txns.items c.deref.result.now c.in-Some-cache.cache c.self.invariant c.in-Some-cache.is c.deref.ensures.value
 
 pub upload_in-requires-clause-block : goal.upload_in-requires-clause-block
 upload_in-requires-clause-block g c =
-    size_made c.args.self.now (record { slots = c.self.inside.slots; cache = c.self.inside.cache; txns = c.self.inside.open.items }) c.in-Some.block c.args.task.now.base.block c.in-Some-cache.cache
-    (is_made c.args.self.now c.open_cache.new.self (record { slots = c.self.inside.slots; cache = c.self.inside.cache; txns = c.self.inside.open.items }) c.in-Some.block c.open_cache.result c.in-Some-cache.cache c.open_cache.ensures.made (sym c.is_err.ensures.value ∙ c.if-is_err.false) c.self.view_is c.in-Some-cache.is)
+    size_made c.args.self.now (record { slots = c.self.inside.slots; cache = c.self.inside.cache; txns = c.self.inside.txns.items }) c.in-Some.block c.args.task.now.base.block c.in-Some-cache.cache
+    (is_made c.args.self.now c.open_cache.new.self (record { slots = c.self.inside.slots; cache = c.self.inside.cache; txns = c.self.inside.txns.items }) c.in-Some.block c.open_cache.result c.in-Some-cache.cache c.open_cache.ensures.made (sym c.is_err.ensures.value ∙ c.if-is_err.false) c.self.view_is c.in-Some-cache.is)
     (same_Some c.in-Some.block c.args.task.now.base.block (sym c.in-Some.is ∙ c.requires.seen)) c.requires.same_block
 
 pub unreachable-requires-in-None-cache : goal.unreachable-requires-in-None-cache
 unreachable-requires-in-None-cache g c =
-    never_none c.args.self.now c.open_cache.new.self (record { slots = c.self.inside.slots; cache = c.self.inside.cache; txns = c.self.inside.open.items }) c.in-Some.block c.open_cache.result c.open_cache.ensures.made (sym c.is_err.ensures.value ∙ c.if-is_err.false) c.self.view_is c.in-None-cache.is
+    never_none c.args.self.now c.open_cache.new.self (record { slots = c.self.inside.slots; cache = c.self.inside.cache; txns = c.self.inside.txns.items }) c.in-Some.block c.open_cache.result c.open_cache.ensures.made (sym c.is_err.ensures.value ∙ c.if-is_err.false) c.self.view_is c.in-None-cache.is
 
 pub invariant_of-self : goal.invariant_of-self
 invariant_of-self g c =
-    still_over c.self.inside.slots c.self.inside.cache c.self.inside.open.items c.deref.result.now c.in-Some-cache.cache c.upload_in.new.cache c.self.invariant c.in-Some-cache.is c.deref.ensures.value
+    still_over c.self.inside.slots c.self.inside.cache c.self.inside.txns.items c.deref.result.now c.in-Some-cache.cache c.upload_in.new.cache c.self.invariant c.in-Some-cache.is c.deref.ensures.value
     c.upload_in.ensures.are_open c.upload_in.ensures.size
 
 pub returns-clause-are_open : goal.returns-clause-are_open
 returns-clause-are_open g c =
-    still_over c.self.inside.slots c.self.inside.cache c.self.inside.open.items c.deref.result.now c.in-Some-cache.cache c.upload_in.new.cache c.self.invariant c.in-Some-cache.is c.deref.ensures.value
+    still_over c.self.inside.slots c.self.inside.cache c.self.inside.txns.items c.deref.result.now c.in-Some-cache.cache c.upload_in.new.cache c.self.invariant c.in-Some-cache.is c.deref.ensures.value
     c.upload_in.ensures.are_open c.upload_in.ensures.size
 
 pub returns-clause-uploads : goal.returns-clause-uploads
 returns-clause-uploads g c =
-    uploads g.S.Store.told c.args.seen.now (view_in c.args.pages.now c.args.task.now.base) c.args.self.now (record { slots = c.self.inside.slots; cache = c.self.inside.cache; txns = c.self.inside.open.items })
+    uploads g.S.Store.told c.args.seen.now (view_in c.args.pages.now c.args.task.now.base) c.args.self.now (record { slots = c.self.inside.slots; cache = c.self.inside.cache; txns = c.self.inside.txns.items })
     (record { store = g.S.Store.shown c.args.store.now; names = g.N.Names.shown c.args.names.now; upload = c.args.task.now })
     (record { store = g.S.Store.shown c.upload_in.new.store; names = g.N.Names.shown c.upload_in.new.names; upload = c.upload_in.new.task })
     c.upload_in.result c.in-Some.block c.in-Some-cache.cache c.upload_in.new.cache
-    (is_made c.args.self.now c.open_cache.new.self (record { slots = c.self.inside.slots; cache = c.self.inside.cache; txns = c.self.inside.open.items }) c.in-Some.block c.open_cache.result c.in-Some-cache.cache c.open_cache.ensures.made (sym c.is_err.ensures.value ∙ c.if-is_err.false) c.self.view_is c.in-Some-cache.is)
+    (is_made c.args.self.now c.open_cache.new.self (record { slots = c.self.inside.slots; cache = c.self.inside.cache; txns = c.self.inside.txns.items }) c.in-Some.block c.open_cache.result c.in-Some-cache.cache c.open_cache.ensures.made (sym c.is_err.ensures.value ∙ c.if-is_err.false) c.self.view_is c.in-Some-cache.is)
     (same_Some c.in-Some.block c.args.task.now.base.block (sym c.in-Some.is ∙ c.requires.seen)) c.upload_in.ensures.works
 
 pub returns-then-is_err-clause-fit : goal.returns-then-is_err-clause-fit
@@ -54,7 +54,7 @@ returns-then-is_err-clause-fit g c =
 
 pub returns-clause-fit : goal.returns-clause-fit
 returns-clause-fit g c =
-    upload_leaves_fit g.S.Store.told c.args.seen.now (view_in c.args.pages.now c.args.task.now.base) c.args.self.now (record { slots = c.self.inside.slots; cache = Some c.upload_in.new.cache; txns = c.self.inside.open.items })
+    upload_leaves_fit g.S.Store.told c.args.seen.now (view_in c.args.pages.now c.args.task.now.base) c.args.self.now (record { slots = c.self.inside.slots; cache = Some c.upload_in.new.cache; txns = c.self.inside.txns.items })
     (record { store = g.S.Store.shown c.args.store.now; names = g.N.Names.shown c.args.names.now; upload = c.args.task.now })
     (record { store = g.S.Store.shown c.upload_in.new.store; names = g.N.Names.shown c.upload_in.new.names; upload = c.upload_in.new.task })
     c.upload_in.result (returns-clause-uploads g c)
