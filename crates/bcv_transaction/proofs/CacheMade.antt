@@ -1,9 +1,9 @@
 -- The cache as it is made.
-use Rattle.std.proofs.Common.{◌≡◌, ◌∙◌, ℕ, ◌/◌, ◌^◌, ◌≤◌, Bool, false, true, min, List, [], Option, Some, None, is_some, refl, sym, ap, subst, arith}
+use Rattle.std.proofs.Common.{◌≡◌, ℕ, ◌/◌, ◌^◌, ◌≤◌, false, min, List, [], Option, Some, None, is_some, refl, sym, subst, arith}
 use Rattle.std.specs.List.{IsDistinct}
 use Rattle.bcv_cache.specs.Entry.{Blocks}
 use Rattle.bcv_transaction.specs.declared.open_txn.OpenTxn.{OpenTxn}
-use Rattle.bcv_transaction.specs.Open.{AreOpenIn, AreOpenWith, all_held}
+use Rattle.bcv_transaction.specs.Open.{AreOpenIn, AreOpenWith}
 use Rattle.bcv_transaction.specs.OpenCalls.{empty_cache}
 
 none_open : (slots block : ℕ) → AreOpenIn (empty_cache slots block) []

@@ -6,7 +6,7 @@ use Rattle.std.proofs.lemmas.Bool.{cases_Bool, eqb-true}
 use Rattle.bcv_base.specs.declared.id.Id16.{Id16}
 use Rattle.bcv_base.specs.HistoryLaws.{id_eq-self}
 use Rattle.bcv_cache.specs.Entry.{Entry}
-use Rattle.bcv_cache.specs.Cache.{IsSlotOf, entry_in, has_id, has_slot, id_eq, slot_of}
+use Rattle.bcv_cache.specs.Cache.{IsSlotOf, has_id, has_slot, id_eq, slot_of}
 use Rattle.bcv_snapshot.specs.declared.held_block.HeldBlock.{HeldBlock}
 use Rattle.bcv_snapshot.specs.Opened.{Opened, IsTxn, block_id, has_block_number, number_of, pin_of}
 use Rattle.bcv_snapshot.specs.Pins.{HasPins}

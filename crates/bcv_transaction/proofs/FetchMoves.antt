@@ -1,10 +1,10 @@
 -- The open transactions after a fetch.
-use Rattle.std.proofs.Common.{◌≡◌, ◌∙◌, ℕ, ◌≤◌, Bool, true, false, cond, List, [], ◌∷◌, Option, Some, None, refl, sym, ap, subst, arith}
+use Rattle.std.proofs.Common.{◌≡◌, ◌∙◌, ℕ, ◌≤◌, Bool, true, false, cond, List, Option, Some, None, sym, ap, subst, arith}
 use Rattle.std.specs.List.{AllByRecursion}
 use Rattle.std.specs.Option.{option_map_or}
 use Rattle.bcv_base.specs.declared.id.Id16.{Id16}
 use Rattle.bcv_cache.specs.Entry.{Blocks, Entry}
-use Rattle.bcv_cache.specs.Cache.{KeepsPinned, filled, has_free_slot, has_id, has_room, last_unpinned, last_unpinned_dropped, room_made, slot_of, without}
+use Rattle.bcv_cache.specs.Cache.{KeepsPinned, has_free_slot, has_id, has_room, last_unpinned, last_unpinned_dropped, room_made, slot_of, without}
 use Rattle.bcv_snapshot.specs.declared.fetched.Fetched.{Fetched}
 use Rattle.bcv_snapshot.specs.declared.fetched.Fetched.TheVariants as fetched
 use Rattle.bcv_snapshot.specs.declared.held_block.HeldBlock.{HeldBlock}

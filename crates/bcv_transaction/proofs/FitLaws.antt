@@ -1,5 +1,5 @@
 -- What ties the open transactions and the cached entries to a log stays.
-use Rattle.std.proofs.Common.{◌≡◌, ◌∙◌, ◌==◌, ℕ, ◌+◌, ◌-◌, ◌≤◌, min, Bool, true, false, not, cond, nat_eq, List, [], ◌∷◌, ◌++◌, map, filter, find, Option, Some, None, IfSome, Result, Ok, Err, option_map, refl, sym, ap, subst, inl, inr, arith}
+use Rattle.std.proofs.Common.{◌≡◌, ◌∙◌, ◌==◌, ℕ, ◌+◌, ◌-◌, ◌≤◌, Bool, true, false, not, cond, nat_eq, List, [], ◌∷◌, ◌++◌, map, filter, find, Option, Some, None, IfSome, Result, Ok, Err, option_map, refl, sym, ap, subst, inl, inr, arith}
 use Rattle.std.specs.declared.alloc.AllocError.{AllocError}
 use Rattle.std.specs.List.{AllByRecursion, IsDistinct, list_all}
 use Rattle.std.proofs.lemmas.Bool.{cases_Bool, eqb-false, eqb-true}
@@ -8,7 +8,6 @@ use Rattle.bcv_base.specs.declared.id.Id16.{Id16}
 use Rattle.bcv_base.specs.declared.log.Entry.{Entry as LogEntry}
 use Rattle.bcv_base.specs.declared.manifest.DbEntry.{DbEntry}
 use Rattle.bcv_base.specs.declared.manifest.Manifest.{Manifest}
-use Rattle.bcv_base.specs.declared.outcome.Outcome.{Outcome}
 use Rattle.bcv_base.specs.declared.seen.Latest.{Latest}
 use Rattle.bcv_base.specs.declared.seen.Seen.{Seen}
 use Rattle.bcv_base.specs.declared.seen.TxnBase.{TxnBase}
@@ -33,7 +32,7 @@ use Rattle.bcv_dbmap.specs.Honest.{GrewHonestly}
 use Rattle.bcv_dbmap.specs.Sound.{IsSoundLog, Sound}
 use Rattle.bcv_dbmap.proofs.ManifestLaws.{images_stay}
 use Rattle.bcv_machine.specs.State.{Access, ToHold, ToRead, Txn}
-use Rattle.bcv_pages.specs.Held.{Held, KeepsView, view_of}
+use Rattle.bcv_pages.specs.Held.{Held}
 use Rattle.bcv_publish.specs.declared.work.Work.{Work}
 use Rattle.bcv_publish.specs.Request.{OverSoundLog}
 use Rattle.bcv_snapshot.specs.declared.fetched.Fetched.{Fetched}
@@ -42,11 +41,11 @@ use Rattle.bcv_snapshot.specs.declared.held_block.HeldBlock.{HeldBlock}
 use Rattle.bcv_snapshot.specs.declared.place.Place.{Place}
 use Rattle.bcv_snapshot.specs.declared.place.Place.TheVariants as place
 use Rattle.bcv_snapshot.specs.BlockFetch.{BlockFetches, BlockGetSound}
-use Rattle.bcv_snapshot.specs.CallLaw.{CallsChangeNoImage, MayCall}
+use Rattle.bcv_snapshot.specs.CallLaw.{MayCall}
 use Rattle.bcv_snapshot.specs.FixedImage.{IsCacheCall}
 use Rattle.bcv_snapshot.specs.Opened.{IsTxn, Opened, is_held}
 use Rattle.bcv_snapshot.specs.Pins.{given_back}
-use Rattle.bcv_snapshot.specs.TxnCalls.{TxnHolds, TxnPlaces}
+use Rattle.bcv_snapshot.specs.TxnCalls.{TxnHolds}
 use Rattle.bcv_snapshot.proofs.CallKinds.{calls_change_no_image}
 use Rattle.bcv_snapshot.proofs.CallLaws.{all_found_first}
 use Rattle.bcv_snapshot.proofs.HeldBlocks.{all_both, all_rest}
@@ -62,11 +61,11 @@ use Rattle.bcv_transaction.specs.declared.open_txn.OpenTxn.{OpenTxn}
 use Rattle.bcv_transaction.specs.FitLaws.{CachedAreFirst, CallsLeaveFit, FitsBase, GrowthLeavesFit, KeepsTxnView, LeavesFit, OldestIsLeast, PartsAreSeen, ViewsLeaveFit}
 use Rattle.bcv_transaction.specs.ListCalls.{EndsIn, EndsOf, FreesIn, FreesOf, HoldsIn, HoldsOf, ReadsIn, ReadsOf}
 use Rattle.bcv_transaction.specs.MachineCalls.{AreFit, open_part, open_parts, seen_txns}
-use Rattle.bcv_transaction.specs.Open.{AreOpen, AreOpenIn, AreOpenWith, Open, base_view, is_numbered, numbers_of, oldest_in, txn_at, view_in, with_txn, without_txn}
-use Rattle.bcv_transaction.specs.OpenCalls.{Begins, CacheCalls, CallsIn, OpensCache, begun_txn, cache_made, with_cache}
+use Rattle.bcv_transaction.specs.Open.{AreOpen, AreOpenWith, Open, base_view, is_numbered, numbers_of, oldest_in, txn_at, view_in, with_txn}
+use Rattle.bcv_transaction.specs.OpenCalls.{Begins, CacheCalls, CallsIn, OpensCache, begun_txn, cache_made}
 use Rattle.bcv_transaction.specs.PageCalls.{FreesPage, HeldAs, HeldIn}
-use Rattle.bcv_transaction.specs.StepCalls.{GoesAfter, GoesOn, PageCalls, Steps, kept_out}
-use Rattle.bcv_transaction.specs.UploadCalls.{Moment, UploadWorks, Uploads}
+use Rattle.bcv_transaction.specs.StepCalls.{GoesAfter, GoesOn, PageCalls, Steps}
+use Rattle.bcv_transaction.specs.UploadCalls.{Moment, Uploads}
 use Rattle.bcv_transaction.proofs.FetchMoves.{all_room_made}
 use Rattle.bcv_transaction.proofs.MachinePages.{one_of}
 use Rattle.bcv_transaction.proofs.StepPlaces.{Gets, IsAway, gets_of, wants}

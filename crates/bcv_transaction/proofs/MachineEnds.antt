@@ -1,20 +1,16 @@
 -- An end and a begin are the machine's.
-use Rattle.std.proofs.Common.{◌≡◌, ◌∙◌, ℕ, Bool, true, false, not, nat_le, List, [], ◌∷◌, ◌++◌, map, length, Option, Some, None, is_none, is_some, refl, sym, ap, subst}
+use Rattle.std.proofs.Common.{◌≡◌, ◌∙◌, ℕ, Bool, false, not, nat_le, List, [], ◌∷◌, ◌++◌, map, length, Option, Some, None, is_none, is_some, refl, sym, ap, subst}
 use Rattle.std.specs.Option.{option_and_then, option_map}
 use Rattle.std.proofs.lemmas.List.{length-map, map-append}
-use Rattle.bcv_base.specs.declared.manifest.DbEntry.{DbEntry}
 use Rattle.bcv_base.specs.declared.seen.TxnBase.{TxnBase}
 use Rattle.bcv_base.specs.History.{Item}
-use Rattle.bcv_base.specs.Image.{Writes}
 use Rattle.bcv_base.specs.Joined.{database_of}
-use Rattle.bcv_base.specs.Version.{Database}
 use Rattle.bcv_cache.specs.Entry.{Blocks}
 use Rattle.bcv_clientstate.proofs.Bases.{base_database}
 use Rattle.bcv_dbmap.specs.Sound.{Sound}
 use Rattle.bcv_machine.specs.Reading.{Begins, Closes, Ends, Opens, OpensAs, begun, txn_over}
 use Rattle.bcv_machine.specs.Refusals.{UnlessRefused, begin_refusal, end_refusal, first_reason, has_all_txns}
 use Rattle.bcv_machine.specs.State.{Container, Side, Txn, Up, View, base_of, database_at, least_free, txn_numbers, view_of, with_up}
-use Rattle.bcv_machine.specs.State.{txn_at as machine_txn}
 use Rattle.bcv_model.specs.declared.reply.Reply.{Reply}
 use Rattle.bcv_model.specs.declared.reply.Reply.TheVariants as reply
 use Rattle.bcv_pages.specs.Held.{Held}

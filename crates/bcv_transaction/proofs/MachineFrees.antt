@@ -10,7 +10,7 @@ use Rattle.bcv_clientstate.specs.Fits.{FitsTxn}
 use Rattle.bcv_machine.specs.Reading.{Frees, LetsGo, freed as machine_freed, with_txn as machine_with}
 use Rattle.bcv_machine.specs.Refusals.{UnlessRefused, first_reason, free_reason}
 use Rattle.bcv_machine.specs.Refusals.{is_outside as machine_outside}
-use Rattle.bcv_machine.specs.State.{Side, Txn, Up, block_of_page, holds, with_up}
+use Rattle.bcv_machine.specs.State.{Side, Txn, Up, holds, with_up}
 use Rattle.bcv_machine.specs.State.{txn_at as machine_txn}
 use Rattle.bcv_model.specs.declared.reply.Reply.{Reply}
 use Rattle.bcv_model.specs.declared.reply.Reply.TheVariants as reply
@@ -22,7 +22,7 @@ use Rattle.bcv_transaction.specs.declared.answers.Freed.TheVariants as freed
 use Rattle.bcv_transaction.specs.declared.open_txn.OpenTxn.{OpenTxn}
 use Rattle.bcv_transaction.specs.ListCalls.{FreesIn, FreesOf}
 use Rattle.bcv_transaction.specs.MachineCalls.{FreesAs, StandsFor, open_part, seen_txns, side_with}
-use Rattle.bcv_transaction.specs.Open.{AreOpenIn, AreOpenWith, Open, is_numbered, numbers_of, txn_at, with_txn}
+use Rattle.bcv_transaction.specs.Open.{AreOpenIn, Open, is_numbered, numbers_of, txn_at, with_txn}
 use Rattle.bcv_transaction.specs.PageCalls.{FreesPage, is_outside}
 use Rattle.bcv_transaction.proofs.MachineLists.{seen, seen_at, side_same}
 use Rattle.bcv_transaction.proofs.MachinePages.{holds_seen, one_of, outside_seen}

@@ -1,18 +1,18 @@
 -- A hold is the machine's.
-use Rattle.std.proofs.Common.{◌≡◌, ◌∙◌, ◌==◌, ℕ, ◌-◌, ◌/◌, ◌≤◌, Bool, true, false, not, cond, ◌||◌, ◌&&◌, nat_eq, nat_le, nat_lt, List, [], ◌∷◌, ◌++◌, map, Option, Some, None, IfSome, Result, Ok, is_some, option_map, if◌then◌else◌, refl, sym, ap, subst, inl, inr}
+use Rattle.std.proofs.Common.{◌≡◌, ◌∙◌, ◌==◌, ℕ, ◌-◌, ◌/◌, ◌≤◌, Bool, true, false, cond, ◌||◌, nat_eq, nat_le, nat_lt, List, [], ◌∷◌, ◌++◌, map, Option, Some, None, IfSome, Ok, is_some, option_map, if◌then◌else◌, refl, sym, ap, subst}
 use Rattle.std.specs.declared.alloc.AllocError.{AllocError}
 use Rattle.std.specs.Cmp.{second_so}
-use Rattle.std.specs.List.{AllByRecursion, IsDistinct}
+use Rattle.std.specs.List.{IsDistinct}
 use Rattle.std.proofs.lemmas.List.{map-append}
 use Rattle.bcv_base.specs.declared.id.Id16.{Id16}
 use Rattle.bcv_base.specs.History.{Item}
 use Rattle.bcv_base.specs.Views.{Added, FromBase, Wrote, view_size}
-use Rattle.bcv_cache.specs.Cache.{IsCache, has_room, slot_of}
+use Rattle.bcv_cache.specs.Cache.{IsCache, has_room}
 use Rattle.bcv_cache.specs.Entry.{Blocks}
 use Rattle.bcv_clientstate.specs.Fits.{FitsTxn}
 use Rattle.bcv_machine.specs.Reading.{holding, with_block, with_txn as machine_with}
 use Rattle.bcv_machine.specs.Refusals.{is_outside as machine_outside}
-use Rattle.bcv_machine.specs.State.{Side, ToHold, Txn, Up, block_of_page, has_number, held_pairs, holds, is_at_hand, is_local, slot_count, with_up}
+use Rattle.bcv_machine.specs.State.{Side, ToHold, Txn, Up, block_of_page, held_pairs, holds, is_at_hand, is_local, slot_count, with_up}
 use Rattle.bcv_machine.specs.State.{txn_at as machine_txn}
 use Rattle.bcv_model.specs.declared.reply.Reply.TheVariants as reply
 use Rattle.bcv_pages.specs.Held.{Held}
@@ -27,7 +27,7 @@ use Rattle.bcv_transaction.specs.declared.answers.Came.TheVariants as came
 use Rattle.bcv_transaction.specs.declared.open_txn.OpenTxn.{OpenTxn}
 use Rattle.bcv_transaction.specs.ListCalls.{HoldsIn, HoldsOf}
 use Rattle.bcv_transaction.specs.MachineCalls.{Comes, IsSetOf, StandsFor, open_part, seen_txns, side_with}
-use Rattle.bcv_transaction.specs.Open.{AreOpenIn, AreOpenWith, Open, is_numbered, numbers_of, txn_at, view_in, with_txn}
+use Rattle.bcv_transaction.specs.Open.{AreOpenWith, Open, is_numbered, numbers_of, txn_at, view_in, with_txn}
 use Rattle.bcv_transaction.specs.PageCalls.{HeldAs, HeldIn, HoldsPage}
 use Rattle.bcv_transaction.proofs.CachedHeld.{not_held}
 use Rattle.bcv_transaction.proofs.MachineFrees.{held_no, number_found, seen_with, with_same}

@@ -1,9 +1,9 @@
 -- The list of open transactions in the machine's words.
-use Rattle.std.proofs.Common.{◌≡◌, ◌∙◌, ◌==◌, ℕ, Bool, true, false, not, cond, nat_eq, List, [], ◌∷◌, ◌++◌, map, filter, find, length, take, Option, Some, None, refl, sym, ap, subst, inl, inr}
+use Rattle.std.proofs.Common.{◌≡◌, ◌∙◌, ◌==◌, ℕ, Bool, true, false, not, cond, List, [], ◌∷◌, ◌++◌, map, filter, find, length, take, Some, refl, sym, ap}
 use Rattle.std.specs.Option.{option_map}
 use Rattle.bcv_base.specs.History.{Item}
 use Rattle.bcv_clientstate.specs.SeenClient.{seen_txn}
-use Rattle.bcv_machine.specs.State.{Side, Task, Txn, Up, txn_numbers, with_up}
+use Rattle.bcv_machine.specs.State.{Side, Task, Txn, Up, with_up}
 use Rattle.bcv_machine.specs.State.{txn_at as machine_txn}
 use Rattle.bcv_machine.specs.Reading.{is_job_of, without_txn as machine_without}
 use Rattle.bcv_pages.specs.Held.{Held}

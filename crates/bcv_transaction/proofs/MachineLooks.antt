@@ -1,11 +1,8 @@
 -- A look is the machine's.
-use Rattle.std.proofs.Common.{◌≡◌, ◌∙◌, ℕ, Bool, true, false, not, ◌||◌, List, [], ◌∷◌, ◌++◌, Option, Some, None, IfSome, is_some, option_map, refl, sym, ap, subst, inl, inr}
+use Rattle.std.proofs.Common.{◌≡◌, ◌∙◌, ℕ, Bool, true, false, not, ◌||◌, List, [], ◌∷◌, Option, Some, None, IfSome, is_some, option_map, refl, sym, ap, subst, inl, inr}
 use Rattle.std.specs.List.{AllByRecursion}
-use Rattle.bcv_base.specs.declared.manifest.DbEntry.{DbEntry}
 use Rattle.bcv_base.specs.History.{Item}
-use Rattle.bcv_base.specs.Image.{Page, Writes, page_of, zeros}
-use Rattle.bcv_base.specs.Keyed.{keyed}
-use Rattle.bcv_base.specs.ManifestRules.{db_name}
+use Rattle.bcv_base.specs.Image.{page_of, zeros}
 use Rattle.bcv_base.specs.Views.{Added, FromBase, Wrote}
 use Rattle.bcv_cache.specs.Entry.{Blocks, Entry, Pinned}
 use Rattle.bcv_clientstate.specs.Fits.{FitsEntry, FitsTxn}
@@ -14,7 +11,7 @@ use Rattle.bcv_dbmap.specs.Sound.{Sound}
 use Rattle.bcv_machine.specs.Reading.{Looks, Shows}
 use Rattle.bcv_machine.specs.Refusals.{UnlessRefused, first_reason, look_reason}
 use Rattle.bcv_machine.specs.Refusals.{is_outside as machine_outside}
-use Rattle.bcv_machine.specs.State.{Side, Txn, Up, holds, is_local, txn_image, with_up}
+use Rattle.bcv_machine.specs.State.{Side, Txn, Up, holds, is_local, with_up}
 use Rattle.bcv_machine.specs.State.{txn_at as machine_txn}
 use Rattle.bcv_model.specs.declared.reply.Reply.{Reply}
 use Rattle.bcv_model.specs.declared.reply.Reply.TheVariants as reply
@@ -22,7 +19,6 @@ use Rattle.bcv_pages.specs.Held.{Held}
 use Rattle.bcv_snapshot.specs.declared.look.Look.{Look}
 use Rattle.bcv_snapshot.specs.declared.look.Look.TheVariants as look
 use Rattle.bcv_snapshot.specs.FixedImage.{ArePut, HasFirst, Moment, ShowsPage, fixed_image}
-use Rattle.bcv_snapshot.specs.Opened.{IsTxn, number_of, pin_of, source_of}
 use Rattle.bcv_snapshot.specs.Pins.{HasPins}
 use Rattle.bcv_snapshot.specs.TxnCalls.{TxnLooks}
 use Rattle.bcv_snapshot.proofs.HeldBlocks.{all_imply}

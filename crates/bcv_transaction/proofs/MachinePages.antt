@@ -1,24 +1,21 @@
 -- A page of an open transaction in the machine's words.
-use Rattle.std.proofs.Common.{◌≡◌, ◌∙◌, ◌==◌, ℕ, zero, suc, ◌-◌, ◌/◌, ◌<◌, Bool, true, false, not, cond, ◌||◌, ◌&&◌, nat_eq, nat_le, nat_lt, List, [], ◌∷◌, map, find, length, Option, Some, None, is_some, option_map, refl, sym, ap, subst, inl, inr, arith}
+use Rattle.std.proofs.Common.{◌≡◌, ◌∙◌, ◌==◌, ℕ, zero, suc, ◌-◌, ◌/◌, Bool, true, false, not, cond, ◌||◌, ◌&&◌, nat_eq, nat_le, nat_lt, List, [], ◌∷◌, map, find, Some, None, is_some, option_map, refl, sym, ap, subst, inl, inr, arith}
 use Rattle.std.specs.List.{AllByRecursion}
 use Rattle.std.proofs.lemmas.Bool.{cases_Bool, leb-false, leb-true, le-leb, lt-leb, ne_eqb}
 use Rattle.bcv_base.specs.declared.seen.TxnBase.{TxnBase}
 use Rattle.bcv_base.specs.History.{Item}
-use Rattle.bcv_base.specs.Image.{Page, Writes, is_base, zeros}
+use Rattle.bcv_base.specs.Image.{Writes, is_base}
 use Rattle.bcv_base.specs.Joined.{joined}
 use Rattle.bcv_base.specs.Views.{Origin, is_from_base, origin, view_size}
 use Rattle.bcv_base.proofs.Views.{is_base-origin}
-use Rattle.bcv_cache.specs.Entry.{Pinned}
-use Rattle.bcv_clientstate.specs.Fits.{FitsTxn}
-use Rattle.bcv_machine.specs.State.{Container, Txn, block_of_page, has_number, holds, is_local, txn_size}
+use Rattle.bcv_machine.specs.State.{Container, has_number, holds, is_local, txn_size}
 use Rattle.bcv_machine.specs.Refusals.{is_outside as machine_outside}
 use Rattle.bcv_pages.specs.Held.{Held}
 use Rattle.bcv_snapshot.specs.declared.held_block.HeldBlock.{HeldBlock}
 use Rattle.bcv_snapshot.specs.Opened.{has_block_number, is_page, number_of, pin_of, source_of}
 use Rattle.bcv_snapshot.proofs.PageOfBlock.{length_pages}
 use Rattle.bcv_transaction.specs.declared.open_txn.OpenTxn.{OpenTxn}
-use Rattle.bcv_transaction.specs.MachineCalls.{open_part}
-use Rattle.bcv_transaction.specs.Open.{base_view, view_in}
+use Rattle.bcv_transaction.specs.Open.{view_in}
 use Rattle.bcv_transaction.proofs.MachineLists.{seen}
 
 -- what holds of each transaction holds of one that is found

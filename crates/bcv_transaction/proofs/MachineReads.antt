@@ -1,5 +1,5 @@
 -- A read is the machine's.
-use Rattle.std.proofs.Common.{◌≡◌, ◌∙◌, ℕ, ◌+◌, ◌/◌, ◌^◌, ◌≤◌, min, Bool, true, false, cond, ◌||◌, nat_le, List, [], ◌∷◌, ◌++◌, map, length, Option, Some, None, IfSome, is_some, option_map, unwrap_or, refl, sym, ap, subst, inl, inr, arith}
+use Rattle.std.proofs.Common.{◌≡◌, ◌∙◌, ℕ, ◌+◌, ◌/◌, ◌^◌, ◌≤◌, min, Bool, true, false, cond, ◌||◌, nat_le, List, [], ◌∷◌, ◌++◌, map, length, Option, Some, None, IfSome, option_map, unwrap_or, refl, sym, ap, subst, arith}
 use Rattle.std.specs.Cmp.{first_so, second_so}
 use Rattle.std.specs.List.{AllByRecursion, flat_map}
 use Rattle.std.proofs.lemmas.Bool.{leb-true}
@@ -12,11 +12,11 @@ use Rattle.bcv_base.specs.Joined.{image_of, joined}
 use Rattle.bcv_base.specs.Views.{Added, FromBase, Origin, Wrote, origin, page_from, view_size}
 use Rattle.bcv_base.proofs.Views.{page_of-view_image}
 use Rattle.bcv_cache.specs.Entry.{Blocks}
-use Rattle.bcv_cache.specs.Cache.{IsCache, has_room, slot_of}
+use Rattle.bcv_cache.specs.Cache.{IsCache, has_room}
 use Rattle.bcv_machine.specs.Reading.{Fetches, FetchesIn, FetchesOf}
 use Rattle.bcv_machine.specs.Refusals.{UnlessRefused, first_reason, page_reason}
 use Rattle.bcv_machine.specs.Refusals.{is_outside as machine_outside}
-use Rattle.bcv_machine.specs.State.{Access, Side, ToHold, ToRead, Txn, Up, held_pairs, holds, is_at_hand, is_local, slot_count, txn_image, with_up}
+use Rattle.bcv_machine.specs.State.{Access, Side, ToHold, ToRead, Txn, Up, held_pairs, holds, is_at_hand, slot_count, txn_image, with_up}
 use Rattle.bcv_machine.specs.State.{txn_at as machine_txn}
 use Rattle.bcv_model.specs.declared.reply.Reply.{Reply}
 use Rattle.bcv_model.specs.declared.reply.Reply.TheVariants as reply

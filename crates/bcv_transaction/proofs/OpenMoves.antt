@@ -1,17 +1,17 @@
 -- The open transactions after one of them and the cache have changed.
-use Rattle.std.proofs.Common.{◌≡◌, ◌∙◌, ℕ, ◌+◌, ◌-◌, ◌≤◌, Bool, true, false, nat_eq, List, [], ◌∷◌, ◌++◌, map, find, Option, Some, None, option_map, append-nil, append_assoc, refl, sym, ap, subst, arith}
+use Rattle.std.proofs.Common.{◌≡◌, ◌∙◌, ℕ, ◌+◌, ◌≤◌, Bool, true, false, nat_eq, List, [], ◌∷◌, ◌++◌, map, find, Option, Some, None, option_map, append-nil, append_assoc, refl, sym, ap, subst, arith}
 use Rattle.std.specs.List.{AllByRecursion, IsDistinct}
 use Rattle.std.proofs.lemmas.Grind.{flat_map-append}
 use Rattle.bcv_base.specs.Image.{Writes}
 use Rattle.bcv_cache.specs.Entry.{Blocks, Entry, Pinned}
-use Rattle.bcv_cache.specs.Cache.{KeepsEntries, counted_down, counted_up, without}
+use Rattle.bcv_cache.specs.Cache.{KeepsEntries}
 use Rattle.bcv_snapshot.specs.declared.held_block.HeldBlock.{HeldBlock}
 use Rattle.bcv_snapshot.specs.declared.place.Place.{Place}
 use Rattle.bcv_snapshot.specs.declared.place.Place.TheVariants as place
 use Rattle.bcv_snapshot.specs.Opened.{Opened, IsTxn, has_block_number, is_held, number_of}
 use Rattle.bcv_snapshot.specs.Pins.{HasPins, KeepsPins, given_back, is_in, pins_in}
-use Rattle.bcv_snapshot.specs.TxnCalls.{HoldsOneLess, HoldsOneMore, TxnFrees, TxnPlaces}
-use Rattle.bcv_snapshot.proofs.HeldBlocks.{all_both, all_front, all_imply, all_rest}
+use Rattle.bcv_snapshot.specs.TxnCalls.{HoldsOneLess, HoldsOneMore, TxnPlaces}
+use Rattle.bcv_snapshot.proofs.HeldBlocks.{all_imply}
 use Rattle.bcv_snapshot.proofs.PinLaws.{pins_both, pins_found, pins_some, pins_swap}
 use Rattle.bcv_transaction.specs.declared.answers.Came.{Came}
 use Rattle.bcv_transaction.specs.declared.answers.Came.TheVariants as came

@@ -1,10 +1,10 @@
 -- How many pins the entries have, beside those of the transactions.
-use Rattle.std.proofs.Common.{◌≡◌, ◌∙◌, ℕ, ◌+◌, ◌-◌, ◌≤◌, Bool, true, false, cond, nat_eq, List, [], ◌∷◌, ◌++◌, map, find, Option, Some, None, option_map, if◌then◌else◌, refl, sym, ap, subst, inl, inr, arith}
+use Rattle.std.proofs.Common.{◌≡◌, ℕ, ◌+◌, ◌-◌, ◌≤◌, Bool, true, false, cond, nat_eq, List, [], ◌∷◌, map, find, Some, if◌then◌else◌, sym, subst, inl, inr, arith}
 use Rattle.std.specs.List.{AllByRecursion}
 use Rattle.std.proofs.lemmas.Bool.{cases_Bool}
 use Rattle.bcv_base.specs.Image.{Writes}
-use Rattle.bcv_cache.specs.Entry.{Blocks, Entry, Pinned}
-use Rattle.bcv_cache.specs.Cache.{counted_down, counted_up, found_first, without}
+use Rattle.bcv_cache.specs.Entry.{Blocks, Entry}
+use Rattle.bcv_cache.specs.Cache.{counted_down, counted_up, without}
 use Rattle.bcv_snapshot.specs.declared.held_block.HeldBlock.{HeldBlock}
 use Rattle.bcv_snapshot.specs.declared.place.Place.{Place}
 use Rattle.bcv_snapshot.specs.declared.place.Place.TheVariants as place

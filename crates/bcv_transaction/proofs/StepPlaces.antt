@@ -1,6 +1,5 @@
 -- Where the page of a step is: its block is not in the cache, and then it is.
-use Rattle.std.proofs.Common.{◌≡◌, ◌∙◌, ℕ, Bool, true, false, cond, nat_eq, List, [], ◌∷◌, find, Option, Some, None, option_map, refl, sym, ap, subst}
-use Rattle.std.specs.List.{IsDistinct}
+use Rattle.std.proofs.Common.{◌≡◌, ◌∙◌, ℕ, Bool, true, false, cond, List, find, Option, Some, None, option_map, refl, sym, ap, subst}
 use Rattle.std.proofs.lemmas.Option.{same_Some}
 use Rattle.bcv_base.specs.declared.id.Id16.{Id16}
 use Rattle.bcv_base.specs.HistoryLaws.{id_eq-self}
@@ -22,7 +21,7 @@ use Rattle.bcv_transaction.specs.declared.answers.Came.{Came}
 use Rattle.bcv_transaction.specs.declared.answers.Came.TheVariants as came
 use Rattle.bcv_transaction.specs.declared.open_txn.OpenTxn.{OpenTxn}
 use Rattle.bcv_transaction.specs.ListCalls.{HoldsIn, HoldsOf, ReadsIn, ReadsOf}
-use Rattle.bcv_transaction.specs.Open.{AreOpen, AreOpenWith, Open, numbers_of, txn_at, view_in, with_txn}
+use Rattle.bcv_transaction.specs.Open.{AreOpen, AreOpenWith, Open, txn_at, view_in, with_txn}
 use Rattle.bcv_transaction.specs.OpenCalls.{CacheCalls, CallsIn}
 use Rattle.bcv_transaction.specs.PageCalls.{HeldAs, HeldIn, IsCopy, ReadAs, absent_as}
 use Rattle.bcv_transaction.specs.StepCalls.{Brings, IsAgain, PageCalls}

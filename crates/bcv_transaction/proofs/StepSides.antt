@@ -1,5 +1,5 @@
 -- A step that reads or holds a page: what it says of the store, and that it is the machine's.
-use Rattle.std.proofs.Common.{◌≡◌, ◌≢◌, ◌∙◌, ℕ, ◌≤◌, Bool, true, false, not, ◌||◌, List, [], ◌∷◌, ◌++◌, append-nil, slice_get, Option, Some, None, IfSome, Result, Ok, Err, option_map, refl, sym, ap, subst, inl, inr, arith}
+use Rattle.std.proofs.Common.{◌≡◌, ◌≢◌, ◌∙◌, ℕ, true, false, List, [], ◌++◌, append-nil, Option, Some, None, IfSome, Result, Ok, Err, option_map, refl, sym, ap, subst, inl, inr, arith}
 use Rattle.std.specs.List.{AllByRecursion}
 use Rattle.std.proofs.lemmas.Option.{same_Some}
 use Rattle.std.proofs.lemmas.List.Elements.{All-nil}
@@ -8,17 +8,14 @@ use Rattle.bcv_base.specs.declared.log.Entry.{Entry as LogEntry}
 use Rattle.bcv_base.specs.declared.manifest.Manifest.{Manifest}
 use Rattle.bcv_base.specs.declared.outcome.Outcome.{Outcome}
 use Rattle.bcv_base.specs.declared.outcome.Outcome.TheVariants as outcome
-use Rattle.bcv_base.specs.Faults.{Rose}
 use Rattle.bcv_base.specs.History.{Item, first_put, history_of}
 use Rattle.bcv_base.specs.Ids.{has_id}
 use Rattle.bcv_base.specs.ManifestRules.{lists}
 use Rattle.bcv_cache.specs.Cache.{filled, has_room, slot_of}
-use Rattle.bcv_cache.specs.Entry.{Blocks, Entry}
+use Rattle.bcv_cache.specs.Entry.{Blocks}
 use Rattle.bcv_clientstate.specs.Fits.{FitsEntry, FitsTxn}
 use Rattle.bcv_clientstate.specs.SeenContainer.{container_of}
 use Rattle.bcv_clientstate.proofs.GoneLaws.{found_among, outlived_may_be_gone}
-use Rattle.bcv_dbmap.specs.Growth.{AreLawful}
-use Rattle.bcv_dbmap.specs.Honest.{GrewHonestly}
 use Rattle.bcv_dbmap.specs.RequestGrowth.{RequestGrowth}
 use Rattle.bcv_dbmap.specs.Sound.{Sound}
 use Rattle.bcv_machine.specs.Gone.{MayBeGone}

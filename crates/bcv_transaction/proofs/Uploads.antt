@@ -1,5 +1,5 @@
 -- A step of an upload, over the cache that is made for it.
-use Rattle.std.proofs.Common.{◌≡◌, ◌∙◌, ℕ, ◌/◌, ◌^◌, ◌≤◌, Bool, true, false, min, List, Option, Some, None, IfSome, Result, Ok, Err, is_err, refl, sym, ap, subst, inl, inr}
+use Rattle.std.proofs.Common.{◌≡◌, ◌∙◌, ℕ, ◌/◌, ◌^◌, ◌≤◌, true, false, min, List, Option, Some, None, IfSome, Result, Ok, Err, is_err, refl, sym, ap, subst, inl, inr}
 use Rattle.std.specs.declared.alloc.AllocError.{AllocError}
 use Rattle.std.proofs.lemmas.Option.{same_Some}
 use Rattle.bcv_base.specs.declared.seen.Seen.{Seen}

@@ -1,5 +1,5 @@
 -- What ties the open transactions and the cached entries to a log stays under each call, and under whatever is appended.
-use Rattle.std.specs.Prelude.{◌≡◌, ◌≤◌, ℕ, Bool, true, false, List, ◌++◌, map, Option, Some, None, IfSome, Result}
+use Rattle.std.specs.Prelude.{◌≡◌, ◌≤◌, ℕ, Bool, true, false, List, ◌++◌, map, Some, None, IfSome, Result}
 use Rattle.std.specs.declared.alloc.AllocError.{AllocError}
 use Rattle.std.specs.List.{AllByRecursion, list_all}
 use Rattle.bcv_base.specs.declared.log.Entry.{Entry as LogEntry}

@@ -1,5 +1,5 @@
 -- What the calls answer and do, over the list of open transactions and the cache.
-use Rattle.std.specs.Prelude.{◌≡◌, ℕ, Bool, true, false, List, map, Option, Some, None, if◌then◌else◌}
+use Rattle.std.specs.Prelude.{◌≡◌, ℕ, Bool, true, false, List, map, Option, Some, None}
 use Rattle.bcv_cache.specs.Entry.{Blocks}
 use Rattle.bcv_pages.specs.Held.{Held}
 use Rattle.bcv_snapshot.specs.declared.look.Look.{Look}

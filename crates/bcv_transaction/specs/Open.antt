@@ -1,5 +1,5 @@
 -- The open transactions of a client with their cache, and what holds of them.
-use Rattle.std.specs.Prelude.{◌≡◌, ℕ, ◌/◌, ◌^◌, ◌≤◌, Bool, min, nat_eq, ◌==◌, not, List, [], ◌∷◌, length, map, filter, find, option_map, Option, Some, None, if◌then◌else◌}
+use Rattle.std.specs.Prelude.{◌≡◌, ℕ, ◌/◌, ◌^◌, ◌≤◌, Bool, min, nat_eq, ◌==◌, not, List, [], ◌∷◌, map, filter, find, option_map, Option, Some, None, if◌then◌else◌}
 use Rattle.std.specs.List.{AllByRecursion, IsDistinct, flat_map}
 use Rattle.bcv_base.specs.declared.seen.TxnBase.{TxnBase}
 use Rattle.bcv_cache.specs.Entry.{Blocks, Entry}

@@ -1,5 +1,5 @@
 -- What the calls do to the open transactions and to the cache that may be there.
-use Rattle.std.specs.Prelude.{◌≡◌, ℕ, ◌/◌, ◌^◌, Bool, true, false, min, nat_le, List, [], ◌∷◌, ◌++◌, length, Option, Some, None, Result, Ok, Err, if◌then◌else◌}
+use Rattle.std.specs.Prelude.{◌≡◌, ℕ, ◌/◌, ◌^◌, true, false, min, nat_le, [], ◌∷◌, ◌++◌, length, Option, Some, None, Result, Ok, Err}
 use Rattle.std.specs.declared.alloc.AllocError.{AllocError}
 use Rattle.bcv_base.specs.declared.seen.TxnBase.{TxnBase}
 use Rattle.bcv_base.specs.Views.{view_size}
@@ -9,7 +9,6 @@ use Rattle.bcv_pages.specs.Held.{Held}
 use Rattle.bcv_snapshot.specs.Opened.{Opened}
 use Rattle.bcv_transaction.specs.declared.answers.Begun.{Begun}
 use Rattle.bcv_transaction.specs.declared.answers.Begun.TheVariants as begun
-use Rattle.bcv_transaction.specs.declared.open_txn.OpenTxn.{OpenTxn}
 use Rattle.bcv_transaction.specs.Open.{Open, base_view, numbers_of}
 
 -- a call over the cache, which keeps the slots that were given; where it is not made nothing is open and nothing has changed

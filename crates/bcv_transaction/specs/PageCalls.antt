@@ -1,5 +1,5 @@
 -- What one page of a transaction answers, and what it does to the cache.
-use Rattle.std.specs.Prelude.{◌≡◌, ◌≤◌, ℕ, Bool, true, false, ◌||◌, List, nat_eq, nat_lt, Option, Some, None, IsSomeAnd, Ok}
+use Rattle.std.specs.Prelude.{◌≡◌, ◌≤◌, ℕ, Bool, true, false, ◌||◌, List, nat_eq, nat_lt, Some, IsSomeAnd, Ok}
 use Rattle.std.specs.declared.alloc.AllocError.{AllocError}
 use Rattle.bcv_base.specs.declared.id.Id16.{Id16}
 use Rattle.bcv_base.specs.declared.seen.TxnBase.{TxnBase}

@@ -1,5 +1,5 @@
 -- What a step of an upload does over the cache that the open transactions share.
-use Rattle.std.specs.Prelude.{◌≡◌, ◌⊎◌, ℕ, List, Option, Some, None}
+use Rattle.std.specs.Prelude.{◌≡◌, ◌⊎◌, List, Some, None}
 use Rattle.bcv_base.specs.declared.seen.Seen.{Seen}
 use Rattle.bcv_base.specs.Drawn.{NamesShown}
 use Rattle.bcv_base.specs.Image.{Writes}

@@ -1,4 +1,4 @@
-use Rattle.std.proofs.Common.{List, ◌++◌, subst}
+use Rattle.std.proofs.Common.{◌++◌, subst}
 use Rattle.bcv_pages.specs.Held.{view_of}
 use Rattle.bcv_snapshot.specs.declared.place.Place.{Place}
 use Rattle.bcv_snapshot.specs.TxnCalls.{TxnPlaces}

@@ -1,4 +1,4 @@
-use Rattle.std.proofs.Common.{◌∙◌, Option, Some, option_map, ap, sym}
+use Rattle.std.proofs.Common.{◌∙◌, Some, option_map, ap, sym}
 use Rattle.bcv_base.specs.declared.seen.TxnBase.{TxnBase}
 use Rattle.bcv_transaction.specs.declared.open_txn.OpenTxn.{OpenTxn}
 use Rattle.bcv_transaction.proofs.ListSteps.{none_at}

@@ -2,9 +2,8 @@ use Rattle.std.proofs.Common.{Option, get_or, refl, sym, subst}
 use Rattle.bcv_transaction.specs.declared.open_txn.OpenTxn.{OpenTxn}
 use Rattle.bcv_transaction.specs.declared.answers.Freed.TheVariants as freed
 use Rattle.bcv_transaction.specs.ListCalls.{FreesOf}
-use Rattle.bcv_transaction.proofs.ListSteps.{FreeStep, at_place, free_step, none_at}
+use Rattle.bcv_transaction.proofs.ListSteps.{at_place, free_step, none_at}
 use Rattle.bcv_transaction.proofs.OpenMoves.{own_block, own_pins}
-use Rattle.bcv_transaction.proofs.TxnPlaces.{IsAt}
 use Rattle.bcv_transaction.proofs.txn_list.free_in.Goals as goal
 
 pub free_page-requires-clause-block : goal.free_page-requires-clause-block

@@ -1,4 +1,4 @@
-use Rattle.std.proofs.Common.{ℕ, Option, option_map, ap, sym}
+use Rattle.std.proofs.Common.{option_map, ap, sym}
 use Rattle.bcv_transaction.specs.declared.open_txn.OpenTxn.{OpenTxn}
 use Rattle.bcv_transaction.proofs.ListSteps.{none_at}
 use Rattle.bcv_transaction.proofs.TxnPlaces.{read_at}

@@ -1,4 +1,4 @@
-use Rattle.std.proofs.Common.{false, arith, length, nat_le, ◌<◌, ◌≡◌, ◌∙◌, ◌++◌, ◌∷◌, [], List, Option, Some, ap, sym, subst}
+use Rattle.std.proofs.Common.{false, arith, length, nat_le, ◌<◌, ◌≡◌, ◌∙◌, ◌++◌, ◌∷◌, [], List, Some, ap, sym, subst}
 use Rattle.std.proofs.lemmas.Bool.{lt-leb}
 use Rattle.bcv_cache.specs.Entry.{Blocks}
 use Rattle.bcv_machine.specs.Reading.{Begins}

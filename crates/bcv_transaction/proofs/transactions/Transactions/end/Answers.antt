@@ -1,5 +1,4 @@
 use Rattle.std.proofs.Common.{◌≡◌, refl, sym, subst}
-use Rattle.bcv_transaction.specs.declared.open_txn.OpenTxn.{OpenTxn}
 use Rattle.bcv_transaction.specs.Open.{Open, txn_at}
 use Rattle.bcv_transaction.specs.MachineCalls.{seen_txns}
 use Rattle.bcv_transaction.proofs.MachineEnds.{ends}

@@ -1,4 +1,4 @@
-use Rattle.std.proofs.Common.{◌≡◌, ◌∙◌, Option, Some, ap, refl, sym}
+use Rattle.std.proofs.Common.{◌∙◌, Some, ap, refl, sym}
 use Rattle.bcv_transaction.specs.Open.{Open}
 use Rattle.bcv_transaction.proofs.FitLaws.{fetch_leaves_fit, leaves_fit_by, nothing_done}
 use Rattle.bcv_transaction.proofs.transactions.Transactions.fetch.Goals as goal

@@ -3,7 +3,7 @@ use Rattle.bcv_cache.specs.Entry.{Blocks}
 use Rattle.bcv_transaction.specs.declared.open_txn.OpenTxn.{OpenTxn}
 use Rattle.bcv_transaction.specs.ListCalls.{FreesIn}
 use Rattle.bcv_transaction.specs.MachineCalls.{FreesAs, side_with}
-use Rattle.bcv_transaction.specs.Open.{AreOpenIn, AreOpenWith, Open}
+use Rattle.bcv_transaction.specs.Open.{AreOpenWith, Open}
 use Rattle.bcv_transaction.proofs.MachineFrees.{all_frees}
 use Rattle.bcv_transaction.proofs.MachineLists.{written_whole}
 use Rattle.bcv_transaction.proofs.transactions.Transactions.free.Goals as goal

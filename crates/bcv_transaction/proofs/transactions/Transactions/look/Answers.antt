@@ -1,10 +1,7 @@
-use Rattle.std.proofs.Common.{◌≡◌, ◌∙◌, List, Option, Some, IfSome, refl, sym, ap, subst}
-use Rattle.bcv_cache.specs.Entry.{Blocks}
-use Rattle.bcv_pages.specs.Held.{Held}
+use Rattle.std.proofs.Common.{◌≡◌, ◌∙◌, List, Some, sym, ap, subst}
 use Rattle.bcv_transaction.specs.declared.open_txn.OpenTxn.{OpenTxn}
 use Rattle.bcv_transaction.specs.ListCalls.{LooksIn}
-use Rattle.bcv_transaction.specs.MachineCalls.{StandsFor}
-use Rattle.bcv_transaction.specs.Open.{AreOpenWith, CanRead, Open, txn_at}
+use Rattle.bcv_transaction.specs.Open.{AreOpenWith, Open}
 use Rattle.bcv_transaction.proofs.MachineLooks.{all_looks}
 use Rattle.bcv_transaction.proofs.transactions.Transactions.look.Goals as goal
 

@@ -1,4 +1,4 @@
-use Rattle.std.proofs.Common.{◌≡◌, Some, None, IfSome, sym, subst}
+use Rattle.std.proofs.Common.{◌≡◌, IfSome, sym, subst}
 use Rattle.bcv_cache.specs.Entry.{Blocks}
 use Rattle.bcv_machine.specs.State.{ToRead}
 use Rattle.bcv_transaction.specs.Open.{CanRead, Open}

@@ -1,4 +1,4 @@
-use Rattle.std.proofs.Common.{◌≡◌, ◌∙◌, Some, sym}
+use Rattle.std.proofs.Common.{◌∙◌, Some, sym}
 use Rattle.std.proofs.lemmas.Option.{same_Some}
 use Rattle.bcv_publish.specs.declared.work.Work.TheVariants as work
 use Rattle.bcv_transaction.proofs.FitLaws.{upload_leaves_fit}
