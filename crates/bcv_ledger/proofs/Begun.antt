@@ -1,6 +1,6 @@
 -- How a publication begins.
-use Rattle.std.proofs.Common.{◌≡◌, ◌+◌, ℕ, true, false, List, [], ◌∷◌, length, Option, Some, None, is_some, ap, inl, refl, sym, ◌∙◌, subst, arith}
-use Rattle.bcv_clientlog.specs.LogParts.{Holds, LoadsAs, LoadsUpTo, is_shut, log_area, log_disk, log_tail}
+use Rattle.std.proofs.Common.{◌≡◌, ◌+◌, ℕ, true, false, List, Option, Some, None, is_some, ap, refl, sym, ◌∙◌, subst, arith}
+use Rattle.bcv_clientlog.specs.LogParts.{Holds, LoadsAs, is_shut, log_area, log_disk, log_tail}
 use Rattle.bcv_disk.specs.Calls.{DiskFails-none}
 use Rattle.bcv_disk.specs.DiskShown.{DiskShown, DiskTold}
 use Rattle.bcv_machine.specs.State as m
@@ -13,7 +13,7 @@ use Rattle.bcv_clientstate.specs.Journaled.{Journaled}
 use Rattle.bcv_clientstate.specs.SeenClient.{Free}
 use Rattle.bcv_clientstate.specs.SeenKept.{seen_pending}
 use Rattle.bcv_ledger.specs.Begins.{BeginGoes, Begins, WaitsFor, free_intended, kept_begun}
-use Rattle.bcv_ledger.specs.NoteEnds.{EndGoes, NoteEnds, kept_ended, known_ended}
+use Rattle.bcv_ledger.specs.NoteEnds.{EndGoes, NoteEnds, kept_ended}
 use Rattle.bcv_ledger.specs.declared.ledger.Ledger.{Ledger}
 use Rattle.bcv_ledger.proofs.NotesEnded.{known_kept, rested, same_views}
 

@@ -1,13 +1,12 @@
 -- What of a client's fitting a log concerns its ledger stays.
-use Rattle.std.proofs.Common.{◌≡◌, ◌∙◌, ℕ, Bool, true, false, cond, List, [], ◌∷◌, ◌++◌, drop, Option, Some, None, IfSome, is_some, bytes_eq, refl, sym, ap, subst}
+use Rattle.std.proofs.Common.{◌≡◌, ℕ, Bool, true, false, cond, List, [], ◌∷◌, ◌++◌, drop, Option, Some, None, IfSome, is_some, bytes_eq, refl, subst}
 use Rattle.std.proofs.lemmas.Option.{same_Some}
 use Rattle.std.specs.List.{AllByRecursion}
 use Rattle.bcv_base.specs.declared.id.Id16.{Id16}
-use Rattle.bcv_base.specs.declared.manifest.Manifest.{Manifest}
 use Rattle.bcv_base.specs.History.{Item}
-use Rattle.bcv_base.specs.Keyed.{keyed, with_keyed, with_made, without_keyed}
+use Rattle.bcv_base.specs.Keyed.{keyed, with_made, without_keyed}
 use Rattle.bcv_databases.specs.Catalog.{known_name}
-use Rattle.bcv_databases.specs.Changes.{base_of, known_left, left_known, note_over, published, upload_left}
+use Rattle.bcv_databases.specs.Changes.{base_of, known_left, note_over, published, upload_left}
 use Rattle.bcv_databases.specs.declared.known.Known.{Known}
 use Rattle.bcv_model.specs.declared.ask.Commit.{Commit}
 use Rattle.bcv_model.specs.declared.kept.Kept.{Kept}
@@ -19,7 +18,6 @@ use Rattle.bcv_model.specs.declared.note.Note.TheVariants as note
 use Rattle.bcv_model.specs.Notes.{after_note, kept_name, kept_published, rebased, replaced_local, with_published}
 use Rattle.bcv_clientstate.specs.BaseLaws.{FitsLocal}
 use Rattle.bcv_clientstate.specs.Fits.{FitsKnown, FitsPending}
-use Rattle.bcv_clientstate.specs.KnownLaws.{known_of}
 use Rattle.bcv_clientstate.specs.SeenContainer.{HasBase}
 use Rattle.bcv_clientstate.proofs.KnownLaws.{known_fits}
 use Rattle.bcv_dbmap.proofs.Keys.{all_found, all_with, all_without}

@@ -1,8 +1,7 @@
 -- The databases that a manifest makes known, in the words of what a client stands for.
-use Rattle.std.proofs.Common.{◌≡◌, ◌∙◌, ℕ, Bool, true, false, cond, not, is_some, List, [], ◌∷◌, map, filter, refl, subst, sym, ap}
+use Rattle.std.proofs.Common.{◌≡◌, ◌∙◌, ℕ, Bool, true, false, cond, List, [], ◌∷◌, map, filter, refl, subst, sym, ap}
 use Rattle.bcv_base.specs.declared.manifest.DbEntry.{DbEntry}
 use Rattle.bcv_base.specs.declared.manifest.Manifest.{Manifest}
-use Rattle.bcv_base.specs.Keyed.{keyed}
 use Rattle.bcv_base.specs.ManifestRules.{Ascends, IsAbove, db_name}
 use Rattle.bcv_databases.specs.Catalog.{Catalog, known_name}
 use Rattle.bcv_databases.specs.Changes as changes
@@ -12,9 +11,9 @@ use Rattle.bcv_journal.specs.declared.fault.Noted.{Noted}
 use Rattle.bcv_journal.specs.declared.fault.Noted.TheVariants.{Done, JournalFull, DiskFault, Closed, NoMemory}
 use Rattle.bcv_model.specs.declared.kept.Kept.{Kept}
 use Rattle.bcv_model.specs.declared.note.Note.{Note}
-use Rattle.bcv_model.specs.Notes.{after_note, kept_name}
+use Rattle.bcv_model.specs.Notes.{after_note}
 use Rattle.bcv_clientstate.specs.KnownLaws.{has_none, known_in, known_of}
-use Rattle.bcv_ledger.specs.LedgerNotes.{EndsWhere, PollsWhere, stands}
+use Rattle.bcv_ledger.specs.LedgerNotes.{PollsWhere, stands}
 use Rattle.bcv_ledger.specs.NoteEnds.{kept_ended, known_ended, noted_fault}
 
 -- ---- the same databases

@@ -1,24 +1,21 @@
 -- What the notes of a client's log do to what it keeps.
-use Rattle.std.proofs.Common.{◌≡◌, ◌≤◌, ◌+◌, ℕ, true, false, List, Some, inl, inr, refl, subst, sym}
+use Rattle.std.proofs.Common.{◌≡◌, ◌≤◌, ◌+◌, ℕ, false, List, Some, inl, inr}
 use Rattle.bcv_clientlog.specs.declared.log.ClientLog.{ClientLog}
 use Rattle.bcv_clientlog.specs.LogParts.{Holds, LoadsAs, is_shut, log_area, log_disk, log_start, log_tail, size_kept}
 use Rattle.bcv_clientlog.specs.Noting.{CompactNoteTells, LogCompacts, LogNotes}
 use Rattle.bcv_clientlog.specs.Compaction.{MovesTo}
 use Rattle.bcv_disk.specs.DiskShown.{DiskShown, DiskTold}
-use Rattle.bcv_disk.specs.Troubles.{counted}
 use Rattle.bcv_journal.specs.declared.fault.Noted.{Noted}
-use Rattle.bcv_journal.specs.declared.fault.Noted.TheVariants as noted
 use Rattle.bcv_machine.specs.State as m
 use Rattle.bcv_model.specs.declared.kept.Kept.{Kept}
 use Rattle.bcv_model.specs.declared.note.Note.{Note}
-use Rattle.bcv_model.specs.declared.note.Note.TheVariants as note
 use Rattle.bcv_model.specs.NoteRules.{MayStand}
 use Rattle.bcv_model.specs.Notes.{note_size}
 use Rattle.bcv_clientstate.specs.Journaled.{IsTried, Journaled}
 use Rattle.bcv_clientstate.specs.SeenClient.{Free}
 use Rattle.bcv_clientstate.specs.SeenKept.{seen_note}
 use Rattle.bcv_clientstate.proofs.NotesTried.{compacts_go_on, notes_go_on}
-use Rattle.bcv_ledger.specs.LedgerNotes.{CountsNote, FourOrNine, NoteTried, TakesCalls}
+use Rattle.bcv_ledger.specs.LedgerNotes.{FourOrNine, NoteTried, TakesCalls}
 
 -- four calls, or nine
 by_moves : (start tail size more begin end calls : ℕ) → MovesTo start tail size more begin end calls → FourOrNine start tail size more calls

@@ -1,11 +1,9 @@
 -- How a commit and a revert end.
-use Rattle.std.proofs.Common.{◌≡◌, ◌∙◌, ◌≤◌, ℕ, Bool, true, false, List, Option, Some, None, IsSome, is_some, refl, sym, ap, subst}
+use Rattle.std.proofs.Common.{◌≡◌, ◌∙◌, ℕ, Bool, true, List, Option, Some, None, is_some, refl, sym, ap, subst}
 use Rattle.std.proofs.lemmas.Option.{same_Some}
 use Rattle.bcv_base.specs.Keyed.{keyed, with_keyed, without_keyed}
-use Rattle.bcv_clientlog.specs.LogParts.{is_waiting, log_start, log_tail, size_kept}
 use Rattle.bcv_clientlog.specs.Noting.{waits_by}
 use Rattle.bcv_databases.specs.Catalog.{Catalog, known_name}
-use Rattle.bcv_databases.specs.Changes as changes
 use Rattle.bcv_databases.specs.Changes.{base_of, commit_note, note_over}
 use Rattle.bcv_databases.specs.Sound.{IsSame, KeepsViews}
 use Rattle.bcv_databases.specs.declared.known.Known.{Known}
@@ -22,7 +20,7 @@ use Rattle.bcv_model.specs.Commits.{writes_of}
 use Rattle.bcv_model.specs.Notes.{after_note, kept_name, note_size}
 use Rattle.bcv_clientstate.specs.PartRefusals.{commit_reason_in, revert_reason_in}
 use Rattle.bcv_ledger.specs.LedgerNotes.{FourOrNine, TakesCalls, parts_in, stands}
-use Rattle.bcv_ledger.specs.LocalCalls.{AddsWhere, CommitNotes, CommitsFrom, LedgerCommits, LedgerReverts, RevertNotes, RevertsFrom, RevertsWhere, fault_of, noted_reply}
+use Rattle.bcv_ledger.specs.LocalCalls.{AddsWhere, CommitsFrom, LedgerCommits, LedgerReverts, RevertsFrom, RevertsWhere, fault_of, noted_reply}
 use Rattle.bcv_ledger.specs.NoteEnds.{kept_ended, known_ended, noted_fault}
 use Rattle.bcv_ledger.specs.declared.ledger.Ledger.{Ledger}
 use Rattle.bcv_ledger.proofs.NotesEnded.{views_then}

@@ -1,9 +1,8 @@
 -- Where a commit and a revert pass, their note may stand.
-use Rattle.std.proofs.Common.{◌≡◌, ◌∙◌, ◌≤◌, ◌<◌, ◌^◌, ℕ, Bool, true, false, List, [], ◌∷◌, Option, Some, None, IsSome, is_some, is_none, not, nat_lt, inl, inr, refl, sym, ap, subst}
+use Rattle.std.proofs.Common.{◌≡◌, ◌∙◌, ◌≤◌, ◌<◌, ◌^◌, ℕ, Bool, true, List, [], ◌∷◌, Option, Some, None, IsSome, is_none, inl, inr, refl, sym, ap, subst}
 use Rattle.std.proofs.lemmas.Bool.{ltb-false}
 use Rattle.std.proofs.lemmas.Option.{same_Some}
 use Rattle.std.specs.Option.{option_map}
-use Rattle.std.specs.List.{AllByRecursion}
 use Rattle.bcv_base.specs.declared.log.Entry.{Entry}
 use Rattle.bcv_base.specs.declared.manifest.DbEntry.{DbEntry}
 use Rattle.bcv_base.specs.declared.manifest.Manifest.{Manifest}
@@ -22,7 +21,6 @@ use Rattle.bcv_dbmap.specs.Outlived.{IsPublished}
 use Rattle.bcv_dbmap.specs.Sound.{IsSoundLog, Sound}
 use Rattle.bcv_machine.specs.State as m
 use Rattle.bcv_model.specs.declared.ask.Commit.{Commit}
-use Rattle.bcv_model.specs.declared.kept.Kept.{Kept}
 use Rattle.bcv_model.specs.declared.kept.Local.{Local}
 use Rattle.bcv_model.specs.declared.note.Note.{Note}
 use Rattle.bcv_model.specs.declared.note.Note.TheVariants as note
@@ -33,7 +31,7 @@ use Rattle.bcv_model.specs.Notes.{kept_name}
 use Rattle.bcv_clientstate.specs.BaseLaws.{FitsLocal}
 use Rattle.bcv_clientstate.specs.Fits.{Fits, FitsKnown}
 use Rattle.bcv_clientstate.specs.NoteSides.{MayNote}
-use Rattle.bcv_clientstate.specs.PartRefusals.{PartView, bad_commit, commit_reason, known_part, large_commit, local_part, part_view, revert_reason, runs_publication}
+use Rattle.bcv_clientstate.specs.PartRefusals.{PartView, bad_commit, commit_reason, known_part, large_commit, local_part, part_view, runs_publication}
 use Rattle.bcv_clientstate.specs.Parts.{Parts}
 use Rattle.bcv_clientstate.specs.SeenContainer.{HasBase}
 use Rattle.bcv_clientstate.specs.SeenKept.{seen_commit}

@@ -1,5 +1,5 @@
 -- A commit and a revert in the machine's words.
-use Rattle.std.proofs.Common.{◌≡◌, ◌≢◌, ◌∙◌, ◌^◌, ◌<◌, ℕ, Bool, true, false, List, [], ◌∷◌, Option, Some, None, is_none, refl, sym, ap, subst}
+use Rattle.std.proofs.Common.{◌≡◌, ◌≢◌, ◌∙◌, ◌^◌, ◌<◌, ℕ, Bool, true, false, List, Option, Some, None, is_none, refl, sym, ap, subst}
 use Rattle.bcv_base.specs.declared.log.Entry.{Entry}
 use Rattle.bcv_base.specs.History.{Item, history_of}
 use Rattle.bcv_base.specs.Keyed.{with_keyed, without_keyed}
@@ -20,14 +20,14 @@ use Rattle.bcv_model.specs.declared.reply.Reply.TheVariants as reply
 use Rattle.bcv_model.specs.Commits.{writes_of}
 use Rattle.bcv_model.specs.Notes.{after_note, note_size}
 use Rattle.bcv_clientstate.specs.Journaled.{Journaled, free_failed, free_noted}
-use Rattle.bcv_clientstate.specs.LocalSides.{EndsLocally, committed, reverted}
+use Rattle.bcv_clientstate.specs.LocalSides.{EndsLocally}
 use Rattle.bcv_clientstate.specs.NoteSides.{MayNote}
 use Rattle.bcv_clientstate.specs.PartRefusals.{commit_reason_in, part_view_in, revert_reason_in, runs_publication}
 use Rattle.bcv_clientstate.specs.Parts.{LedgerParts, Parts, with_ledger}
 use Rattle.bcv_clientstate.specs.SeenClient.{Free, seen_up, side_of}
 use Rattle.bcv_clientstate.proofs.LocalSides.{commits_as_asked, refuses_commit, refuses_revert, reverts_as_asked}
 use Rattle.bcv_ledger.specs.LedgerNotes.{parts_in}
-use Rattle.bcv_ledger.specs.LocalCalls.{CommitNotes, CommitSteps, CommitsFrom, HasLedger, IsArmed, IsUnmoved, LedgerCommits, LedgerReverts, LocalSteps, RevertNotes, RevertSteps, RevertsFrom, fault_of}
+use Rattle.bcv_ledger.specs.LocalCalls.{CommitSteps, CommitsFrom, HasLedger, IsArmed, LedgerCommits, LedgerReverts, LocalSteps, RevertSteps, RevertsFrom, fault_of}
 use Rattle.bcv_ledger.specs.NoteEnds.{EndGoes, NoteEnds}
 use Rattle.bcv_ledger.specs.declared.ledger.Ledger.{Ledger}
 use Rattle.bcv_ledger.proofs.LocalLaws.{commit_may_stand, revert_may_stand}

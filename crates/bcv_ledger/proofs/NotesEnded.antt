@@ -1,11 +1,10 @@
 -- How a call ends that notes something.
-use Rattle.std.proofs.Common.{◌≡◌, ◌≤◌, ◌≢◌, ◌+◌, ◌*◌, ◌^◌, ◌<◌, ◌∙◌, ℕ, Bool, true, false, List, [], ◌∷◌, length, Option, Some, None, is_some, ⊎_elim, inl, inr, refl, sym, ap, subst, arith}
+use Rattle.std.proofs.Common.{◌≡◌, ◌≢◌, ◌+◌, ◌^◌, ◌<◌, ◌∙◌, ℕ, Bool, true, false, List, [], ◌∷◌, length, Option, Some, None, is_some, ⊎_elim, inl, inr, refl, sym, ap, subst, arith}
 use Rattle.bcv_base.specs.declared.id.Id16.{Id16}
 use Rattle.bcv_clientlog.specs.declared.log.ClientLog.{ClientLog}
 use Rattle.bcv_clientlog.specs.LogParts.{Holds, LoadsAs, LoadsUpTo, is_shut, is_waiting, log_area, log_disk, log_tail}
 use Rattle.bcv_clientlog.specs.Noting.{NoteLeaves, spare_after, waits_by}
 use Rattle.bcv_databases.specs.Catalog.{Catalog}
-use Rattle.bcv_databases.specs.Changes.{Ends}
 use Rattle.bcv_databases.specs.Sound.{KeepsViews}
 use Rattle.bcv_databases.specs.declared.known.Known.{Known}
 use Rattle.bcv_disk.specs.Calls.{DiskFails-as, DiskFails-none}
@@ -21,7 +20,6 @@ use Rattle.bcv_model.specs.declared.note.Note.{Note}
 use Rattle.bcv_model.specs.declared.note.Note.TheVariants as note
 use Rattle.bcv_model.specs.declared.reply.Reply.{Reply}
 use Rattle.bcv_model.specs.declared.reply.Reply.TheVariants as reply
-use Rattle.bcv_model.specs.NoteRules.{MayStand}
 use Rattle.bcv_model.specs.Notes.{after_note, kept_published, note_size, note_text}
 use Rattle.bcv_pages.specs.Held.{Held}
 use Rattle.bcv_clientstate.specs.Journaled.{Journaled, NoteGoes, free_failed, free_noted}

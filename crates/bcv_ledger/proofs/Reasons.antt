@@ -1,5 +1,5 @@
 -- Why a call is refused, by the databases in memory; and what holds where nothing speaks against it.
-use Rattle.std.proofs.Common.{◌≡◌, ◌∙◌, ◌<◌, ◌≤◌, ◌+◌, ◌^◌, ◌&&◌, ℕ, Bool, true, false, cond, not, nat_le, nat_lt, List, [], ◌∷◌, length, suc, Option, Some, None, IsSome, IfSome, is_some, is_none, option_and_then, refl, sym, ap, subst, arith}
+use Rattle.std.proofs.Common.{◌≡◌, ◌∙◌, ◌<◌, ◌≤◌, ◌+◌, ◌^◌, ◌&&◌, ℕ, Bool, true, false, not, nat_le, nat_lt, List, [], ◌∷◌, length, Option, Some, None, IsSome, is_some, is_none, option_and_then, refl, sym, ap, subst, arith}
 use Rattle.std.proofs.lemmas.Bool.{and_parts, leb-true, ltb-true}
 use Rattle.std.proofs.lemmas.Option.{same_Some}
 use Rattle.std.specs.Option.{option_map}
@@ -20,9 +20,8 @@ use Rattle.bcv_model.specs.declared.note.Note.{Note}
 use Rattle.bcv_model.specs.declared.note.Note.TheVariants as note
 use Rattle.bcv_model.specs.declared.reply.Reply.{Reply}
 use Rattle.bcv_model.specs.declared.reply.Reply.TheVariants as reply
-use Rattle.bcv_model.specs.Commits.{writes_of}
 use Rattle.bcv_model.specs.Notes.{kept_name}
-use Rattle.bcv_pages.specs.Held.{Held, last_of}
+use Rattle.bcv_pages.specs.Held.{Held}
 use Rattle.bcv_clientstate.specs.PartRefusals.{bad_commit, commit_reason_in, has_local_in, known_part, large_commit, local_part, part_view_in, revert_reason_in}
 use Rattle.bcv_clientstate.specs.Parts.{LedgerParts}
 use Rattle.bcv_dbmap.proofs.Keys.{keyed_key}

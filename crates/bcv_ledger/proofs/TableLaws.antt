@@ -1,9 +1,8 @@
 -- What a ledger shows of its databases, in the machine's words.
-use Rattle.std.proofs.Common.{◌≡◌, ◌∙◌, ℕ, Bool, List, [], ◌∷◌, map, length, Option, Some, None, is_some, refl, sym, ap, subst}
+use Rattle.std.proofs.Common.{◌≡◌, ◌∙◌, ℕ, List, [], ◌∷◌, map, length, Option, Some, None, refl, sym, ap, subst}
 use Rattle.std.specs.Prelude.{option_and_then, unwrap_or}
 use Rattle.std.specs.Option.{option_map}
 use Rattle.std.specs.List.{AllByRecursion}
-use Rattle.bcv_base.specs.declared.log.Entry.{Entry}
 use Rattle.bcv_base.specs.declared.manifest.DbEntry.{DbEntry}
 use Rattle.bcv_base.specs.History.{Item, history_of}
 use Rattle.bcv_base.specs.Image.{Writes, or_else}
@@ -11,25 +10,24 @@ use Rattle.bcv_base.specs.Joined.{joined}
 use Rattle.bcv_base.specs.Keyed.{keyed, with_keyed}
 use Rattle.bcv_base.specs.Version.{Database}
 use Rattle.bcv_base.specs.Views.{view_size}
-use Rattle.bcv_cache.specs.Entry as cache
-use Rattle.bcv_databases.specs.Catalog.{Catalog, View, commits_of, found_at, known_name, known_view, local_view, set_at, use_name, writes_in}
-use Rattle.bcv_databases.specs.Sound.{AreDatabases, HasSet}
+use Rattle.bcv_databases.specs.Catalog.{Catalog, commits_of, known_name, known_view, local_view, use_name, writes_in}
+use Rattle.bcv_databases.specs.Sound.{HasSet}
 use Rattle.bcv_databases.specs.Table.{known_row, local_row, merged_rows, row_name}
 use Rattle.bcv_databases.specs.declared.database_view.CommitsAt.{CommitsAt}
 use Rattle.bcv_databases.specs.declared.known.Known.{Known}
 use Rattle.bcv_databases.specs.declared.set_use.SetUse.{SetUse}
-use Rattle.bcv_dbmap.specs.Sound.{IsSoundLog, Sound}
+use Rattle.bcv_dbmap.specs.Sound.{Sound}
 use Rattle.bcv_machine.specs.LocalWriting as machine
 use Rattle.bcv_machine.specs.State as m
 use Rattle.bcv_model.specs.declared.kept.Local.{Local}
 use Rattle.bcv_model.specs.declared.reply.Row.{Row}
 use Rattle.bcv_model.specs.Commits.{writes_of}
 use Rattle.bcv_model.specs.Notes.{kept_name}
-use Rattle.bcv_pages.specs.Held.{Held, last_of, view_of}
+use Rattle.bcv_pages.specs.Held.{Held, last_of}
 use Rattle.bcv_clientstate.specs.BaseLaws.{FitsLocal}
-use Rattle.bcv_clientstate.specs.Fits.{Fits, FitsKnown}
+use Rattle.bcv_clientstate.specs.Fits.{FitsKnown}
 use Rattle.bcv_clientstate.specs.PartRefusals.{known_part, local_part, seen_view}
-use Rattle.bcv_clientstate.specs.Parts.{Parts, with_ledger}
+use Rattle.bcv_clientstate.specs.Parts.{with_ledger}
 use Rattle.bcv_clientstate.specs.SeenClient.{seen_known}
 use Rattle.bcv_clientstate.specs.SeenContainer.{HasBase, container_of}
 use Rattle.bcv_clientstate.specs.SeenKept.{seen_local}

@@ -6,3 +6,4 @@ pub mod Reasons
 pub mod LocalLaws
 pub mod TableLaws
 pub mod FitsLedger
+pub mod Rests

@@ -17,6 +17,7 @@ use std::alloc::{AllocError, Global};
 impl<D: Disk> Ledger<D> {
     ghost use Rattle.bcv_model.specs.declared.kept.Kept.{Kept};
     ghost use Rattle.bcv_clientlog.specs.LogParts.{Holds, LoadsAs, log_area, log_disk, log_tail};
+    ghost use Rattle.bcv_ledger.specs.Rests.{LedgerRests};
 
     /// Whether a call has met a fault of the disk. Every later note answers `Closed`.
     pub fn closed(&self) -> bool
@@ -71,6 +72,13 @@ impl<D: Disk> Ledger<D> {
             (λ o. o ≤ from → KeepsFrom self.old.databases.sets self.new.databases.sets set from to) }
     {
         self.databases.trim(set, oldest);
+    }
+
+    /// Shows that the journal of a ledger at rest holds what it keeps, as a client that goes on with it wants to know.
+    pub fn rests(&self)
+        ensures { LedgerRests D.shown self.now }
+    {
+        let _ = self.log.span();
     }
 
     /// The disk back. A crash leaves what the log holds.

@@ -1,7 +1,7 @@
 use Rattle.std.proofs.Common.{Bool, Option, ap, sym, ◌∙◌}
 use Rattle.std.specs.Option.{option_map}
 use Rattle.bcv_clientlog.specs.LogParts.{is_shut}
-use Rattle.bcv_databases.specs.Catalog.{View, found_at, shown_view}
+use Rattle.bcv_databases.specs.Catalog.{View, shown_view}
 use Rattle.bcv_model.specs.Commits.{writes_of}
 use Rattle.bcv_ledger.specs.Reasons.{commit_reason_by}
 use Rattle.bcv_ledger.proofs.Reasons.{commit_reason_is}

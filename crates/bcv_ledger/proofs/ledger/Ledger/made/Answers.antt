@@ -1,16 +1,12 @@
-use Rattle.std.proofs.Common.{◌≡◌, ◌∙◌, Bool, List, Option, refl, rules, sym, subst}
+use Rattle.std.proofs.Common.{◌≡◌, ◌∙◌, Bool, List, refl, rules, sym, subst}
 use Rattle.bcv_base.specs.ManifestRules.{Ascends}
 use Rattle.bcv_databases.specs.Catalog.{known_name}
 use Rattle.bcv_databases.specs.Changes as changes
 use Rattle.bcv_databases.specs.declared.known.Known.{Known}
 use Rattle.bcv_model.specs.declared.note.Note.TheVariants.{Done}
-use Rattle.bcv_model.specs.declared.reply.Reply.{Reply}
-use Rattle.bcv_model.specs.Notes.{after_note}
-use Rattle.bcv_clientstate.specs.KnownLaws.{known_of}
 use Rattle.bcv_ledger.specs.LedgerNotes.{PollsWhere, stands}
-use Rattle.bcv_ledger.specs.NoteEnds.{NoteEnds}
 use Rattle.bcv_ledger.proofs.KnownAt.{ascends_in, kept_polled, known_polled, views_polled}
-use Rattle.bcv_ledger.proofs.NotesEnded.{done_waits, ended_by, kept_where, known_where, never_full, same_views, still_waits, unnoted, views_where}
+use Rattle.bcv_ledger.proofs.NotesEnded.{ended_by, kept_where, known_where, never_full, same_views, unnoted, views_where}
 use Rattle.bcv_ledger.proofs.ledger.Ledger.made.Goals as goal
 
 pub returns-in_default-clause-ends : goal.returns-in_default-clause-ends

@@ -1,10 +1,9 @@
-use Rattle.std.proofs.Common.{◌≡◌, ◌∙◌, Bool, true, false, Option, Some, None, IsSome, IfSome, ap, refl, rules, subst, sym}
+use Rattle.std.proofs.Common.{◌≡◌, ◌∙◌, Bool, true, Option, Some, None, IsSome, IfSome, ap, refl, rules, subst, sym}
 use Rattle.bcv_base.specs.Views.{is_commit}
 use Rattle.bcv_clientlog.specs.LogParts.{is_shut, log_start, log_tail, size_kept}
 use Rattle.bcv_clientlog.specs.Noting.{LogCompacts}
 use Rattle.bcv_databases.specs.Catalog.{View}
 use Rattle.bcv_model.specs.declared.kept.Kept.{Kept}
-use Rattle.bcv_model.specs.declared.reply.Reply.{Reply}
 use Rattle.bcv_model.specs.Commits.{writes_of}
 use Rattle.bcv_clientstate.specs.PartRefusals.{commit_reason_in}
 use Rattle.bcv_ledger.specs.LedgerNotes.{parts_in, stands}

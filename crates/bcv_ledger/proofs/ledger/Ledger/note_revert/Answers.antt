@@ -1,10 +1,9 @@
-use Rattle.std.proofs.Common.{◌≡◌, ◌∙◌, Bool, true, false, Option, Some, None, IsSome, IfSome, ap, is_some, refl, rules, subst, sym}
+use Rattle.std.proofs.Common.{◌≡◌, ◌∙◌, Bool, Some, None, IsSome, ap, refl, rules, subst, sym}
 use Rattle.bcv_base.specs.Keyed.{keyed}
-use Rattle.bcv_clientlog.specs.LogParts.{is_shut, log_start, log_tail, size_kept}
+use Rattle.bcv_clientlog.specs.LogParts.{is_shut}
 use Rattle.bcv_clientlog.specs.Noting.{LogCompacts}
 use Rattle.bcv_model.specs.declared.kept.Kept.{Kept}
 use Rattle.bcv_model.specs.declared.note.Note.TheVariants.{Revert}
-use Rattle.bcv_model.specs.declared.reply.Reply.{Reply}
 use Rattle.bcv_model.specs.Notes.{kept_name}
 use Rattle.bcv_clientstate.specs.PartRefusals.{revert_reason_in}
 use Rattle.bcv_ledger.specs.LedgerNotes.{parts_in, stands}

@@ -1,9 +1,6 @@
-use Rattle.std.proofs.Common.{◌≡◌, ◌∙◌, Bool, Option, refl, rules, sym, subst}
-use Rattle.bcv_clientlog.specs.Noting.{LogNotes}
+use Rattle.std.proofs.Common.{◌∙◌, Bool, refl, sym, subst}
 use Rattle.bcv_model.specs.declared.note.Note.TheVariants.{Done}
-use Rattle.bcv_model.specs.declared.reply.Reply.{Reply}
 use Rattle.bcv_ledger.specs.LedgerNotes.{ResolvesWhere, stands}
-use Rattle.bcv_ledger.specs.NoteEnds.{NoteEnds}
 use Rattle.bcv_ledger.proofs.LedgerNoted.{tried}
 use Rattle.bcv_ledger.proofs.NotesEnded.{done_waits, ended_by, never_full, still_waits, unnoted}
 use Rattle.bcv_ledger.proofs.Resolved.{kept_resolved, known_resolved, views_resolved}
