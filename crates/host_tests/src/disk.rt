@@ -26,7 +26,7 @@ fn a_file_is_read_and_written(rt: HostRuntime) -> Result<(), Fail> {
     assert_eq!(rt; bytes, *b"cdEF");
     assert_eq!(rt; disk.read(4, &mut bytes), DiskEnd::Failed);
     let file = fs::read(&rt, &in_folder(&rt, &folder, "journal")?)?;
-    assert_eq!(rt; file.items(), b"abcdEF".as_slice());
+    assert_eq!(rt; file.as_slice(), b"abcdEF".as_slice());
     remove(&rt, &folder)
 }
 
@@ -49,10 +49,7 @@ fn a_journal_in_use(rt: HostRuntime) -> Result<(), Fail> {
 }
 
 // The log in a folder, and what it keeps.
-fn loaded(
-    rt: &HostRuntime,
-    folder: &str,
-) -> Result<(ClientLog<FileDisk>, Kept), Fail> {
+fn loaded(rt: &HostRuntime, folder: &str) -> Result<(ClientLog<FileDisk>, Kept), Fail> {
     match ClientLog::load(rt.alloc(), FileDisk::on(rt, folder)?) {
         LogLoad::Ready(log, kept) => Ok((log, kept)),
         LogLoad::Refused(_, _) => Err(Fail::new("refused")),

@@ -52,9 +52,12 @@ fn a_folder_in_memory(rt: HostRuntime) -> Result<(), Fail> {
     assert_eq!(rt; store.list(alloc, None, &mut ids), Listed::End);
     assert_eq!(rt; ids.len(), 1);
     assert_eq!(rt; store.delete(alloc, &BLOCK, 0), Del::Done);
-    assert_eq!(rt; store.put(alloc, &BLOCK, Cond::Absent, b"x"), Put::Stored(1));
+    assert_eq!(rt;
+        store.put(alloc, &BLOCK, Cond::Absent, b"x"),
+        Put::Stored(1)
+    );
     assert_eq!(rt; store.get(alloc, &BLOCK, None, &mut into, 9), Got::Found(1));
-    assert_eq!(rt; into.items(), b"x".as_slice());
+    assert_eq!(rt; into.as_slice(), b"x".as_slice());
     let mut folder = store.into_folder();
     folder.fail(0);
     let mut store = DirStore::new(folder);

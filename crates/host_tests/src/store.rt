@@ -34,22 +34,37 @@ fn answers_of_one_store(rt: HostRuntime) -> Result<(), Fail> {
     let folder = fresh(&rt, "answers")?;
     let mut store = opened(&rt, &folder)?;
     let name = block(7);
-    assert_eq!(rt; store.put(alloc, &name, Cond::Absent, b"four"), Put::Stored(1));
-    assert_eq!(rt; store.put(alloc, &name, Cond::Absent, b"more"), Put::Refused);
+    assert_eq!(rt;
+        store.put(alloc, &name, Cond::Absent, b"four"),
+        Put::Stored(1)
+    );
+    assert_eq!(rt;
+        store.put(alloc, &name, Cond::Absent, b"more"),
+        Put::Refused
+    );
     let (answer, bytes) = got(&rt, &mut store, &name);
     assert_eq!(rt; answer, Got::Found(1));
-    assert_eq!(rt; bytes.items(), b"four".as_slice());
+    assert_eq!(rt; bytes.as_slice(), b"four".as_slice());
     let mut into = Vec::new(alloc);
-    assert_eq!(rt; store.get(alloc, &name, None, &mut into, 3), Got::TooLong(4));
+    assert_eq!(rt;
+        store.get(alloc, &name, None, &mut into, 3),
+        Got::TooLong(4)
+    );
     assert_eq!(rt; store.get(alloc, &name, Some(1), &mut into, 3), Got::Same);
-    assert_eq!(rt; store.get(alloc, &name, Some(2), &mut into, 4), Got::Found(1));
+    assert_eq!(rt;
+        store.get(alloc, &name, Some(2), &mut into, 4),
+        Got::Found(1)
+    );
     let file = fs::read(&rt, &in_folder(&rt, &folder, SEVEN)?)?;
-    assert_eq!(rt; file.items(), b"\0\0\0\0\0\0\0\x01four".as_slice());
+    assert_eq!(rt; file.as_slice(), b"\0\0\0\0\0\0\0\x01four".as_slice());
     assert_eq!(rt; store.delete(alloc, &name, 5), Del::Done);
     assert_eq!(rt; store.delete(alloc, &name, 5), Del::Done);
     let (answer, _) = got(&rt, &mut store, &name);
     assert_eq!(rt; answer, Got::Missing);
-    assert_eq!(rt; store.put(alloc, &name, Cond::Match(1), b"four"), Put::Refused);
+    assert_eq!(rt;
+        store.put(alloc, &name, Cond::Match(1), b"four"),
+        Put::Refused
+    );
     remove(&rt, &folder)
 }
 
@@ -67,7 +82,7 @@ fn two_stores_put_in_turns(rt: HostRuntime) -> Result<(), Fail> {
     assert_eq!(rt; one.put(alloc, &name, Cond::Match(2), b"c"), Put::Stored(3));
     let (answer, bytes) = got(&rt, &mut two, &name);
     assert_eq!(rt; answer, Got::Found(3));
-    assert_eq!(rt; bytes.items(), b"c".as_slice());
+    assert_eq!(rt; bytes.as_slice(), b"c".as_slice());
     remove(&rt, &folder)
 }
 
@@ -92,7 +107,10 @@ fn torn_files(rt: HostRuntime) -> Result<(), Fail> {
     assert!(rt; bytes.is_empty());
     fs::write(&rt, &path, b"\xff\xff\xff\xff\xff\xff\xff\xff".as_slice())?;
     assert_eq!(rt; store.put(alloc, &name, Cond::Match(7), b"x"), Put::Refused);
-    assert_eq!(rt; store.put(alloc, &name, Cond::Match(u64::MAX), b"x"), Put::Failed);
+    assert_eq!(rt;
+        store.put(alloc, &name, Cond::Match(u64::MAX), b"x"),
+        Put::Failed
+    );
     remove(&rt, &folder)
 }
 
@@ -123,16 +141,26 @@ fn other_files_are_passed_over(rt: HostRuntime) -> Result<(), Fail> {
         "notes",
         "journal",
     ] {
-        fs::write(&rt, &in_folder(&rt, &folder, name)?, b"left by a crash".as_slice())?;
+        fs::write(
+            &rt,
+            &in_folder(&rt, &folder, name)?,
+            b"left by a crash".as_slice(),
+        )?;
     }
-    assert_eq!(rt; store.put(alloc, &ObjName::Manifest, Cond::Absent, b"m"), Put::Stored(1));
-    assert_eq!(rt; store.put(alloc, &block(8), Cond::Absent, b"b"), Put::Stored(1));
+    assert_eq!(rt;
+        store.put(alloc, &ObjName::Manifest, Cond::Absent, b"m"),
+        Put::Stored(1)
+    );
+    assert_eq!(rt;
+        store.put(alloc, &block(8), Cond::Absent, b"b"),
+        Put::Stored(1)
+    );
     let mut ids = Vec::new(alloc);
     assert_eq!(rt; store.list(alloc, None, &mut ids), Listed::End);
     assert_eq!(rt; ids.len(), 1);
     let (answer, bytes) = got(&rt, &mut store, &block(8));
     assert_eq!(rt; answer, Got::Found(1));
-    assert_eq!(rt; bytes.items(), b"b".as_slice());
+    assert_eq!(rt; bytes.as_slice(), b"b".as_slice());
     remove(&rt, &folder)
 }
 
@@ -142,7 +170,10 @@ fn lists_in_parts(rt: HostRuntime) -> Result<(), Fail> {
     let folder = fresh(&rt, "lists")?;
     let mut store = opened(&rt, &folder)?;
     for number in 0..1030 {
-        assert_eq!(rt; store.put(alloc, &block(number), Cond::Absent, b""), Put::Stored(1));
+        assert_eq!(rt;
+            store.put(alloc, &block(number), Cond::Absent, b""),
+            Put::Stored(1)
+        );
     }
     let mut ids = Vec::new(alloc);
     assert_eq!(rt; store.list(alloc, None, &mut ids), Listed::More);
@@ -166,12 +197,25 @@ fn a_manifest_syncs_what_was_put(rt: HostRuntime) -> Result<(), Fail> {
         let _ = store.put(alloc, &block(number), Cond::Absent, b"block");
     }
     assert_eq!(rt; store.folder().syncs(), 0);
-    assert_eq!(rt; store.put(alloc, &manifest, Cond::Absent, b"m"), Put::Stored(1));
-    assert_eq!(rt; store.folder().syncs(), 5, "three blocks, the manifest and the names");
-    assert_eq!(rt; store.put(alloc, &manifest, Cond::Absent, b"m"), Put::Refused);
+    assert_eq!(rt;
+        store.put(alloc, &manifest, Cond::Absent, b"m"),
+        Put::Stored(1)
+    );
+    assert_eq!(rt;
+        store.folder().syncs(),
+        5,
+        "three blocks, the manifest and the names"
+    );
+    assert_eq!(rt;
+        store.put(alloc, &manifest, Cond::Absent, b"m"),
+        Put::Refused
+    );
     assert_eq!(rt; store.folder().syncs(), 5);
     let _ = store.put(alloc, &block(3), Cond::Absent, b"block");
     let _ = store.delete(alloc, &block(3), 0);
-    assert_eq!(rt; store.put(alloc, &manifest, Cond::Match(1), b"m"), Put::Stored(2));
+    assert_eq!(rt;
+        store.put(alloc, &manifest, Cond::Match(1), b"m"),
+        Put::Stored(2)
+    );
     remove(&rt, &folder)
 }
