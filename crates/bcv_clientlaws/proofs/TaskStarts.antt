@@ -47,7 +47,7 @@ use Rattle.bcv_clientstate.proofs.GoneLaws.{found_among}
 use Rattle.bcv_clientstate.proofs.PartRefusals.{map_len}
 use Rattle.bcv_clientstate.proofs.Stages.{new_is_staged}
 use Rattle.bcv_clientstate.proofs.StartRefusals.{poll_is_refused, resolve_is_refused, start_is_refused}
-use Rattle.bcv_clientlaws.specs.Starts.{CleanupIsNew, CopyHasLeft, CopyIsNew, CreateIsNew, FetchStarts, NewCleanupFits, NewCopyFits, NewCreateFits, NewUploadFits, PollStarts, QuietTaskFits, RefusesFetch, RefusesPoll, RefusesResolve, RefusesStart, ResolveStarts, StartsAsAsked, StartsWithoutPending, UploadHasLeft, UploadIsNew, with_job}
+use Rattle.bcv_clientlaws.specs.Starts.{CleanupIsNew, CopyHasLeft, CopyIsNew, CreateIsNew, FetchStarts, NewCleanupFits, NewCopyFits, NewCreateFits, NewUploadFits, PollStarts, QuietTaskFits, RefusesFetch, RefusesPoll, RefusesResolve, RefusesStart, ResolveStarts, StartsAsAsked, StartsWithoutPending, UploadHasLeft, UploadIsNew, with_new_task}
 use Rattle.bcv_clientlaws.specs.TaskLists.{task_numbers}
 use Rattle.bcv_clientlaws.proofs.OtherParts.{task_fits_last}
 use Rattle.bcv_clientlaws.proofs.TaskLists.{free_is_free, task_comes}
@@ -134,7 +134,7 @@ unused moment past p f id none quiet fresh =
 -- ---- asks
 
 starts_as : (moment : ℕ) (past : List Item) (p : Parts) (f : Free) (n left : ℕ) (j : Job) (k : m.Job) → least_free (task_numbers p) ≡ Some n → seen_job p.kept.pending j ≡ k
-    → StartsAs (side_of moment past p f) (seen_up past p) k left (reply.Task n left) (side_of moment past (with_job n j p) f)
+    → StartsAs (side_of moment past p f) (seen_up past p) k left (reply.Task n left) (side_of moment past (with_new_task n j p) f)
 starts_as moment past p f n left j k free is = (
   free_is_free past p ∙ free,
   refl,
@@ -147,7 +147,7 @@ starts_as_asked moment past p f kind n id j free least is_id fresh is =
     let s : m.Side = side_of moment past p f in
     let u : m.Up = seen_up past p in
     let r : Reply = reply.Task n (left_at_start (container_of moment past) kind) in
-    let t : m.Side = side_of moment past (with_job n j p) f in
+    let t : m.Side = side_of moment past (with_new_task n j p) f in
     subst (λ (o : Option Reply). UnlessRefused o (with_up s u) r t (Publishes s u kind id r t)) (sym (start_is_refused past p kind ∙ free)) (
       is_id,
       unused moment past p f id (none_pending p kind free) (none_runs p kind free) fresh,
@@ -164,7 +164,7 @@ pub poll_starts : PollStarts
 poll_starts moment past p f n free least =
     let s : m.Side = side_of moment past p f in
     let u : m.Up = seen_up past p in
-    let t : m.Side = side_of moment past (with_job n Polling p) f in
+    let t : m.Side = side_of moment past (with_new_task n Polling p) f in
     subst (λ (o : Option Reply). UnlessRefused o (with_up s u) (reply.Task n 1) t (StartsAs s u m.Polling 1 (reply.Task n 1) t)) (sym (poll_is_refused past p ∙ free))
     (starts_as moment past p f n 1 Polling m.Polling least refl)
 
@@ -178,7 +178,7 @@ pub resolve_starts : ResolveStarts
 resolve_starts moment past p f n free least =
     let s : m.Side = side_of moment past p f in
     let u : m.Up = seen_up past p in
-    let t : m.Side = side_of moment past (with_job n Resolving p) f in
+    let t : m.Side = side_of moment past (with_new_task n Resolving p) f in
     subst (λ (o : Option Reply). UnlessRefused o (with_up s u) (reply.Task n 1) t (StartsAs s u m.Resolving 1 (reply.Task n 1) t)) (sym (resolve_is_refused past p ∙ free))
     (starts_as moment past p f n 1 Resolving m.Resolving least refl)
 

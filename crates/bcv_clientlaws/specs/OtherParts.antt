@@ -1,5 +1,5 @@
 -- A client of which one part was replaced, or to whose log others have appended, still fits.
-use Rattle.std.specs.Prelude.{◌≡◌, ℕ, true, List, ◌++◌, Option, Some, IfSome}
+use Rattle.std.specs.Prelude.{◌≡◌, ℕ, true, false, List, ◌++◌, Option, Some, IfSome}
 use Rattle.std.specs.List.{AllByRecursion}
 use Rattle.bcv_base.specs.declared.id.Id16.{Id16}
 use Rattle.bcv_base.specs.declared.log.Entry.{Entry}
@@ -14,6 +14,11 @@ use Rattle.bcv_dbmap.specs.Growth.{AreLawful}
 use Rattle.bcv_dbmap.specs.Kept.{IsKept}
 use Rattle.bcv_dbmap.specs.Sound.{IsSoundLog}
 use Rattle.bcv_model.specs.declared.kept.Kept.{Kept}
+use Rattle.bcv_model.specs.declared.note.Note as bytes
+use Rattle.bcv_model.specs.declared.note.Note.TheVariants as note
+use Rattle.bcv_model.specs.NoteRules.{MayStand}
+use Rattle.bcv_model.specs.Notes.{after_note}
+use Rattle.bcv_clientstate.specs.PartRefusals.{runs_publication}
 use Rattle.bcv_clientstate.specs.BaseLaws.{FitsLocal}
 use Rattle.bcv_clientstate.specs.Fits.{Fits, FitsEntry, FitsJob, FitsPending, FitsSeen, FitsTask, FitsTxn, TakesFrom}
 use Rattle.bcv_clientstate.specs.KeptLaws.{IsOrdered}
@@ -110,6 +115,25 @@ abbrev pub KeptFits : Type 0
 KeptFits =
     (log : List Entry) (p : Parts) (entries : List cache.Entry) (k : Kept) (known : List Known) → Fits p entries log → FitsKept log p.id k known
     → KeepsTaken p.kept k → Fits (with_kept k known p) entries log
+
+-- while no task publishes, no upload takes any
+abbrev pub KeptFitsQuietly : Type 0
+KeptFitsQuietly =
+    (log : List Entry) (p : Parts) (entries : List cache.Entry) (k : Kept) (known : List Known) → Fits p entries log → FitsKept log p.id k known
+    → runs_publication p ≡ false → Fits (with_kept k known p) entries log
+
+-- the note ends no publication and reverts nothing
+abbrev pub LeavesCommits : bytes.Note → Type 0
+LeavesCommits (note.Me id) = Unit {0}
+LeavesCommits (note.First entry number block commit) = Unit {0}
+LeavesCommits (note.Committed db commit) = Unit {0}
+LeavesCommits (note.Intent p) = Unit {0}
+LeavesCommits (note.Done id number) = ⊥
+LeavesCommits (note.Void id) = Unit {0}
+LeavesCommits (note.Revert db) = ⊥
+
+abbrev pub NotesKeepTaken : Type 0
+NotesKeepTaken = (k : Kept) (x : bytes.Note) → IsOrdered k → MayStand k x → LeavesCommits x → KeepsTaken k (after_note k x)
 
 -- whether the journal is closed does not count
 abbrev pub ShutFits : Type 0

@@ -32,9 +32,11 @@ use Rattle.bcv_publish.specs.State as publish
 use Rattle.bcv_upload.specs.State as upload
 use Rattle.bcv_upload.specs.UploadPut as putting
 use Rattle.bcv_upload.specs.UploadWork as uploading
-use Rattle.bcv_clientstate.specs.Fits.{Fits, FitsJob}
+use Rattle.bcv_clientstate.specs.Fits.{Fits, FitsJob, FitsTask}
 use Rattle.bcv_clientstate.specs.PartRefusals.{runs_publication}
-use Rattle.bcv_clientstate.specs.Parts.{Copying, Uploading, Cleaning, Parts}
+use Rattle.bcv_clientstate.specs.Parts.{Copying, Uploading, Cleaning, Task, Parts}
+use Rattle.bcv_clientstate.specs.Stages.{IsStagedTask}
+use Rattle.bcv_clientlaws.specs.TaskLists.{with_task}
 
 -- ---- blocks
 
@@ -52,6 +54,13 @@ AreOfBlocks own = AllByRecursion IsOfBlock own
 abbrev pub BlocksLeaveFits : Type 0
 BlocksLeaveFits =
     (log own : List Entry) (p : Parts) (entries : List cache.Entry) → Fits p entries log → runs_publication p ≡ false → AreOfBlocks own → Fits p entries (log ++ own)
+
+-- and with the task as it goes on, where that fits
+abbrev pub TaskGoesOnFits : Type 0
+TaskGoesOnFits =
+    (mine : List Id16) (log own : List Entry) (p : Parts) (entries : List cache.Entry) (t : Task) → Fits p entries log
+    → runs_publication p ≡ false → AreOfBlocks own → FitsTask mine p.id p.kept (log ++ own) t → IsStagedTask t
+    → Fits (with_task t p) entries (log ++ own)
 
 -- ---- publications
 

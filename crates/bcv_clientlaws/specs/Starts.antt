@@ -32,8 +32,8 @@ use Rattle.bcv_clientstate.specs.StartRefusals.{poll_reason, resolve_reason, run
 use Rattle.bcv_clientlaws.specs.TaskLists.{task_numbers, with_task}
 
 -- with one more task under a number
-abbrev pub with_job : ℕ → Job → Parts → Parts
-with_job n j p = with_task (record { number = n; job = j }) p
+abbrev pub with_new_task : ℕ → Job → Parts → Parts
+with_new_task n j p = with_task (record { number = n; job = j }) p
 
 -- ---- an ask that starts a task
 
@@ -43,7 +43,7 @@ StartsAsAsked =
     (moment : ℕ) (past : List Item) (p : Parts) (f : Free) (kind : m.Kind) (n : ℕ) (id : Id16) (j : Job)
     → start_reason p kind ≡ None → least_free (task_numbers p) ≡ Some n → IsId id → has_version past id ≡ false
     → seen_job p.kept.pending j ≡ m.Publishing (started (container_of moment past) kind id)
-    → Starts (side_of moment past p f) (seen_up past p) kind id (reply.Task n (left_at_start (container_of moment past) kind)) (side_of moment past (with_job n j p) f)
+    → Starts (side_of moment past p f) (seen_up past p) kind id (reply.Task n (left_at_start (container_of moment past) kind)) (side_of moment past (with_new_task n j p) f)
 
 abbrev pub RefusesStart : Type 0
 RefusesStart =
@@ -58,7 +58,7 @@ StartsWithoutPending = (p : Parts) (kind : m.Kind) → start_reason p kind ≡ N
 abbrev pub PollStarts : Type 0
 PollStarts =
     (moment : ℕ) (past : List Item) (p : Parts) (f : Free) (n : ℕ) → poll_reason p ≡ None → least_free (task_numbers p) ≡ Some n
-    → StartsPoll (side_of moment past p f) (seen_up past p) (reply.Task n 1) (side_of moment past (with_job n Polling p) f)
+    → StartsPoll (side_of moment past p f) (seen_up past p) (reply.Task n 1) (side_of moment past (with_new_task n Polling p) f)
 
 abbrev pub RefusesPoll : Type 0
 RefusesPoll =
@@ -69,7 +69,7 @@ RefusesPoll =
 abbrev pub ResolveStarts : Type 0
 ResolveStarts =
     (moment : ℕ) (past : List Item) (p : Parts) (f : Free) (n : ℕ) → resolve_reason p ≡ None → least_free (task_numbers p) ≡ Some n
-    → StartsResolve (side_of moment past p f) (seen_up past p) (reply.Task n 1) (side_of moment past (with_job n Resolving p) f)
+    → StartsResolve (side_of moment past p f) (seen_up past p) (reply.Task n 1) (side_of moment past (with_new_task n Resolving p) f)
 
 abbrev pub RefusesResolve : Type 0
 RefusesResolve =
@@ -81,7 +81,7 @@ abbrev pub FetchStarts : Type 0
 FetchStarts =
     (moment : ℕ) (past : List Item) (p : Parts) (f : Free) (n page : ℕ) (access : m.Access) (x : m.Txn) → m.is_at_hand (container_of moment past) x page ≡ false
     → runs_all p ≡ false → least_free (task_numbers p) ≡ Some n
-    → FetchesIn access (side_of moment past p f) (seen_up past p) x page (reply.Task n 1) (side_of moment past (with_job n (Fetching access x.number page) p) f)
+    → FetchesIn access (side_of moment past p f) (seen_up past p) x page (reply.Task n 1) (side_of moment past (with_new_task n (Fetching access x.number page) p) f)
 
 abbrev pub RefusesFetch : Type 0
 RefusesFetch =
@@ -133,28 +133,28 @@ UploadHasLeft =
 abbrev pub QuietTaskFits : Type 0
 QuietTaskFits =
     (log : List Entry) (p : Parts) (entries : List cache.Entry) (n : ℕ) (j : Job) → Fits p entries log → names_of_job j ≡ []
-    → Fits (with_job n j p) entries log
+    → Fits (with_new_task n j p) entries log
 
 abbrev pub NewCreateFits : Type 0
 NewCreateFits =
     (log : List Entry) (p : Parts) (entries : List cache.Entry) (n block retention : ℕ) (id : Id16) → Fits p entries log
-    → is_block_size block ≡ true → IsId id → has_version (history_of log) id ≡ false → Fits (with_job n (Creating block retention id) p) entries log
+    → is_block_size block ≡ true → IsId id → has_version (history_of log) id ≡ false → Fits (with_new_task n (Creating block retention id) p) entries log
 
 abbrev pub NewCopyFits : Type 0
 NewCopyFits =
     (log : List Entry) (p : Parts) (entries : List cache.Entry) (n : ℕ) (x : CopyPlan) (id : Id16) → Fits p entries log
     → copy.IsRunning (copy.new_task x p.id id) → IsId id → has_version (history_of log) id ≡ false
-    → Fits (with_job n (Copying (copy.new_task x p.id id)) p) entries log
+    → Fits (with_new_task n (Copying (copy.new_task x p.id id)) p) entries log
 
 abbrev pub NewUploadFits : Type 0
 NewUploadFits =
     (log : List Entry) (p : Parts) (entries : List cache.Entry) (n : ℕ) (base : TxnBase) (view : List Writes) (size : ℕ) (touched : List ℕ) (id : Id16)
     → Fits p entries log → upload.IsRunning (upload.new_upload base size touched p.id id) → IsId id → has_version (history_of log) id ≡ false
     → IsViewOf base view size touched → list_all (is_commit base.entry.page_size) view ≡ true → HasBase (history_of log) base.number base.block base.entry
-    → TakesFrom p.kept base.entry.name base.number view → Fits (with_job n (Uploading (upload.new_upload base size touched p.id id) view) p) entries log
+    → TakesFrom p.kept base.entry.name base.number view → Fits (with_new_task n (Uploading (upload.new_upload base size touched p.id id) view) p) entries log
 
 abbrev pub NewCleanupFits : Type 0
 NewCleanupFits =
     (log : List Entry) (p : Parts) (entries : List cache.Entry) (n : ℕ) (id : Id16) → Fits p entries log
     → cleanup.IsRunning (cleanup.new_cleanup p.id id) → IsId id → has_version (history_of log) id ≡ false
-    → Fits (with_job n (Cleaning (cleanup.new_cleanup p.id id)) p) entries log
+    → Fits (with_new_task n (Cleaning (cleanup.new_cleanup p.id id)) p) entries log
