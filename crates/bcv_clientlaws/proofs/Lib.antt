@@ -11,3 +11,4 @@ pub mod ResolveSteps
 pub mod FaultsEnd
 pub mod DatabaseForms
 pub mod Taken
+pub mod StepsSeen
