@@ -1,5 +1,5 @@
 -- An ask that starts a task, in the machine's words; the new task as the machine's; and that the client with it fits the log.
-use Rattle.std.specs.Prelude.{◌≡◌, ℕ, true, false, List, [], Some, None}
+use Rattle.std.specs.Prelude.{◌≡◌, ℕ, true, false, List, [], map, Some, None}
 use Rattle.std.specs.List.{list_all}
 use Rattle.bcv_base.specs.declared.id.Id16.{Id16}
 use Rattle.bcv_base.specs.declared.log.Entry.{Entry}
@@ -7,6 +7,7 @@ use Rattle.bcv_base.specs.declared.seen.TxnBase.{TxnBase}
 use Rattle.bcv_base.specs.History.{Item, history_of}
 use Rattle.bcv_base.specs.Ids.{IsId}
 use Rattle.bcv_base.specs.Image.{Writes}
+use Rattle.bcv_base.specs.Keyed.{keyed}
 use Rattle.bcv_base.specs.ManifestRules.{is_block_size}
 use Rattle.bcv_base.specs.Views.{is_commit}
 use Rattle.bcv_cache.specs.Entry as cache
@@ -15,12 +16,15 @@ use Rattle.bcv_dbcopy.specs.declared.plan.CopyPlan.{CopyPlan}
 use Rattle.bcv_dbcopy.specs.declared.plan.CopyPlan.TheVariants as plan
 use Rattle.bcv_dbcopy.specs.State as copy
 use Rattle.bcv_dbmap.specs.Past.{has_version}
-use Rattle.bcv_dbmap.specs.Sound.{Sound}
+use Rattle.bcv_dbmap.specs.Sound.{Sound, IsSoundLog}
 use Rattle.bcv_machine.specs.Reading.{FetchesIn}
-use Rattle.bcv_machine.specs.Starting.{Starts, StartsPoll, StartsResolve, left_at_start, started}
+use Rattle.bcv_machine.specs.Starting.{Starts, StartsPoll, StartsResolve, left_at_start, started, upload_of}
 use Rattle.bcv_machine.specs.State as m
+use Rattle.bcv_model.specs.declared.kept.Local.{Local}
 use Rattle.bcv_model.specs.declared.reply.Reply.{Reply}
 use Rattle.bcv_model.specs.declared.reply.Reply.TheVariants as reply
+use Rattle.bcv_model.specs.Commits.{writes_of}
+use Rattle.bcv_model.specs.Notes.{kept_name}
 use Rattle.bcv_slots.specs.Numbered.{least_free}
 use Rattle.bcv_upload.specs.BlockText.{IsViewOf}
 use Rattle.bcv_upload.specs.State as upload
@@ -28,7 +32,8 @@ use Rattle.bcv_clientstate.specs.Fits.{Fits, TakesFrom}
 use Rattle.bcv_clientstate.specs.Parts.{Job, Fetching, Polling, Creating, Copying, Uploading, Cleaning, Resolving, Parts, names_of_job}
 use Rattle.bcv_clientstate.specs.SeenClient.{Free, seen_job, seen_up, side_of}
 use Rattle.bcv_clientstate.specs.SeenContainer.{HasBase, container_of}
-use Rattle.bcv_clientstate.specs.StartRefusals.{poll_reason, resolve_reason, runs_all, start_reason}
+use Rattle.bcv_clientstate.specs.SeenKept.{seen_kept}
+use Rattle.bcv_clientstate.specs.StartRefusals.{asked_over, poll_reason, resolve_reason, runs_all, start_reason}
 use Rattle.bcv_clientlaws.specs.TaskLists.{task_numbers, with_task}
 
 -- with one more task under a number
@@ -126,6 +131,54 @@ UploadHasLeft =
     (moment : ℕ) (past : List Item) (base : TxnBase) (view : List Writes) (size : ℕ) (touched : List ℕ) (writer id : Id16) → Sound past
     → HasBase past base.number base.block base.entry → IsViewOf base view size touched
     → HasLeft (container_of moment past) (m.Uploading base.entry.name base.number view) (upload.left_of (upload.new_upload base size touched writer id))
+
+-- ---- each ask, with the task that the client has then
+
+abbrev pub CreateStarts : Type 0
+CreateStarts =
+    (moment : ℕ) (past : List Item) (p : Parts) (f : Free) (block retention n : ℕ) (id : Id16) → start_reason p (m.Creating block retention) ≡ None
+    → least_free (task_numbers p) ≡ Some n → IsId id → has_version past id ≡ false
+    → Starts (side_of moment past p f) (seen_up past p) (m.Creating block retention) id (reply.Task n 1)
+    (side_of moment past (with_new_task n (Creating block retention id) p) f)
+
+-- a new database, a copy or a removal
+abbrev pub CopyStarts : Type 0
+CopyStarts =
+    (moment : ℕ) (past : List Item) (p : Parts) (f : Free) (x : CopyPlan) (n : ℕ) (id : Id16) → start_reason p (kind_asked x) ≡ None
+    → least_free (task_numbers p) ≡ Some n → IsId id → has_version past id ≡ false
+    → Starts (side_of moment past p f) (seen_up past p) (kind_asked x) id (reply.Task n (copy.left_of (copy.new_task x p.id id)))
+    (side_of moment past (with_new_task n (Copying (copy.new_task x p.id id)) p) f)
+
+-- what an upload of a database stands on: its base, and all commits that it has
+pub record IsUploadOver (l : Local) (base : TxnBase) (size : ℕ) (touched : List ℕ) : Type 0 where
+  pub entry : base.entry ≡ l.entry
+  pub number : base.number ≡ l.number
+  pub block : base.block ≡ l.block
+  pub of_view : IsViewOf base (map writes_of l.commits) size touched
+
+abbrev pub UploadStarts : Type 0
+UploadStarts =
+    (moment : ℕ) (log : List Entry) (entries : List cache.Entry) (p : Parts) (f : Free) (db : List ℕ) (l : Local) (base : TxnBase) (size : ℕ)
+    (touched : List ℕ) (n : ℕ) (id : Id16) → IsSoundLog log → Fits p entries log → keyed kept_name db p.kept.locals ≡ Some l
+    → IsUploadOver l base size touched → start_reason p (asked_over db (Some l)) ≡ None → least_free (task_numbers p) ≡ Some n
+    → IsId id → has_version (history_of log) id ≡ false
+    → Starts (side_of moment (history_of log) p f) (seen_up (history_of log) p) (upload_of (seen_kept p.kept) db) id
+    (reply.Task n (upload.left_of (upload.new_upload base size touched p.id id)))
+    (side_of moment (history_of log) (with_new_task n (Uploading (upload.new_upload base size touched p.id id) (map writes_of l.commits)) p) f)
+
+-- an upload that is refused
+abbrev pub RefusesUpload : Type 0
+RefusesUpload =
+    (moment : ℕ) (past : List Item) (p : Parts) (f : Free) (db : List ℕ) (id : Id16) (r : Reply)
+    → start_reason p (asked_over db (keyed kept_name db p.kept.locals)) ≡ Some r
+    → Starts (side_of moment past p f) (seen_up past p) (upload_of (seen_kept p.kept) db) id r (side_of moment past p f)
+
+abbrev pub CleanupStarts : Type 0
+CleanupStarts =
+    (moment : ℕ) (past : List Item) (p : Parts) (f : Free) (n : ℕ) (id : Id16) → start_reason p m.Cleaning ≡ None
+    → least_free (task_numbers p) ≡ Some n → IsId id → has_version past id ≡ false
+    → Starts (side_of moment past p f) (seen_up past p) m.Cleaning id (reply.Task n (cleanup.left_of (cleanup.new_cleanup p.id id)))
+    (side_of moment past (with_new_task n (Cleaning (cleanup.new_cleanup p.id id)) p) f)
 
 -- ---- that the client with it fits
 
