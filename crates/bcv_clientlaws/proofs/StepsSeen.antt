@@ -15,12 +15,12 @@ use Rattle.bcv_machine.specs.Refusals.{ends_pending}
 use Rattle.bcv_machine.specs.Resolve.{Resolves, ResolvesAs, ResolvesPending, number_from}
 use Rattle.bcv_machine.specs.State as m
 use Rattle.bcv_machine.specs.State.{ToHold, ToRead, last_version, with_up}
-use Rattle.bcv_machine.specs.Step.{IsQuiet, Steps, StepsJob, StepsOpen, StepsPublication}
+use Rattle.bcv_machine.specs.Step.{Steps, StepsOpen, StepsPublication}
 use Rattle.bcv_model.specs.declared.reply.Reply.{Reply}
 use Rattle.bcv_model.specs.declared.reply.Reply.TheVariants as reply
 use Rattle.bcv_model.specs.declared.reply.Said.{Said}
 use Rattle.bcv_clientstate.specs.Parts.{Task, Parts}
-use Rattle.bcv_clientstate.specs.SeenClient.{Free, seen_job, seen_task, seen_up, side_of}
+use Rattle.bcv_clientstate.specs.SeenClient.{seen_job, seen_task, seen_up, side_of}
 use Rattle.bcv_clientlaws.specs.TaskLists.{task_at, without_task}
 use Rattle.bcv_clientlaws.specs.TaskSteps.{ClosedEndsTask, NoTaskSteps, StepIsOfTask, StepsSeeNoTasks}
 use Rattle.bcv_clientlaws.proofs.TaskLists.{job_is_busy, task_goes, task_is_found}

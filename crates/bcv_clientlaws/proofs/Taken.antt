@@ -1,7 +1,7 @@
 -- What an upload takes of a database stays there under a note that leaves the commits.
-use Rattle.std.proofs.Common.{◌≡◌, ◌∙◌, ◌+◌, ◌≤◌, ℕ, Bool, true, false, List, [], ◌∷◌, ◌++◌, length, map, take, Option, Some, None, refl, sym, ap, subst, arith}
+use Rattle.std.proofs.Common.{◌≡◌, ◌∙◌, ◌≤◌, ℕ, true, false, List, [], ◌∷◌, ◌++◌, length, map, take, Some, None, refl, sym, ap, subst, arith}
 use Rattle.std.specs.Str.{bytes_eq}
-use Rattle.std.proofs.lemmas.List.{length-map, length-take, map-append, take-append-le}
+use Rattle.std.proofs.lemmas.List.{length-take, map-append, take-append-le}
 use Rattle.std.proofs.lemmas.Option.{same_Some}
 use Rattle.bcv_base.specs.Image.{Writes}
 use Rattle.bcv_base.specs.Keyed.{keyed, with_keyed}
@@ -12,7 +12,7 @@ use Rattle.bcv_model.specs.declared.kept.Kept.{Kept}
 use Rattle.bcv_model.specs.declared.kept.Local.{Local}
 use Rattle.bcv_model.specs.declared.note.Note.TheVariants as note
 use Rattle.bcv_model.specs.Commits.{writes_of}
-use Rattle.bcv_model.specs.Notes.{after_note, kept_name, with_local_commit}
+use Rattle.bcv_model.specs.Notes.{kept_name}
 use Rattle.bcv_clientstate.specs.Fits.{TakesFrom}
 use Rattle.bcv_clientlaws.specs.OtherParts.{NotesKeepTaken}
 

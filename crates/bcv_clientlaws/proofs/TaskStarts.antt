@@ -28,7 +28,6 @@ use Rattle.bcv_machine.specs.Refusals.{UnlessRefused, first_reason}
 use Rattle.bcv_machine.specs.Starting.{Publishes, Starts, StartsAs, left_at_start, started, touched_count, upload_blocks, upload_of}
 use Rattle.bcv_machine.specs.State as m
 use Rattle.bcv_machine.specs.State.{with_up}
-use Rattle.bcv_model.specs.declared.kept.Local.{Local}
 use Rattle.bcv_model.specs.declared.kept.PendingPub.{PendingPub}
 use Rattle.bcv_model.specs.declared.reply.Reply.{Reply}
 use Rattle.bcv_model.specs.declared.reply.Reply.TheVariants as reply
@@ -286,12 +285,12 @@ upload_starts moment log entries p f db l base size touched n id sound fits foun
     let t : m.Side = side_of moment past (with_new_task n j p) f in
     let name : l.entry.name ≡ db = keyed_key kept_name db p.kept.locals l found in
     let same : m.Uploading db l.number view ≡ kind =
-        ap (λ (d : List ℕ). m.Uploading d l.number view) (sym name ∙ ap (λ (e : DbEntry). e.name) (sym over.entry)) ∙ ap (λ (k : ℕ). m.Uploading base.entry.name k view) (sym over.number) in
+    ap (λ (d : List ℕ). m.Uploading d l.number view) (sym name ∙ ap (λ (e : DbEntry). e.name) (sym over.entry)) ∙ ap (λ (k : ℕ). m.Uploading base.entry.name k view) (sym over.number) in
     let asked : upload_of (seen_kept p.kept) db ≡ kind = upload_is_over p db ∙ ap (asked_over db) found ∙ same in
     let has : HasBase past base.number base.block base.entry =
-        subst (λ (k : ℕ). HasBase past k base.block base.entry) (sym over.number)
-        (subst (λ (b : ℕ). HasBase past l.number b base.entry) (sym over.block)
-        (subst (λ (e : DbEntry). HasBase past l.number l.block e) (sym over.entry) (all_found kept_name (FitsLocal past) db p.kept.locals l fits.locals found))) in
+    subst (λ (k : ℕ). HasBase past k base.block base.entry) (sym over.number)
+    (subst (λ (b : ℕ). HasBase past l.number b base.entry) (sym over.block)
+    (subst (λ (e : DbEntry). HasBase past l.number l.block e) (sym over.entry) (all_found kept_name (FitsLocal past) db p.kept.locals l fits.locals found))) in
     subst (λ (k : m.Kind). Starts (side_of moment past p f) (seen_up past p) k id (reply.Task n (upload.left_of (upload.new_upload base size touched p.id id))) t) (sym asked)
     (subst (λ (left : ℕ). Starts (side_of moment past p f) (seen_up past p) kind id (reply.Task n left) t)
     (sym (upload_has_left moment past base view size touched p.id id sound has over.of_view).left_is)

@@ -21,7 +21,8 @@ StepsSeeNoTasks =
 -- the step of a task's job, over the client without the task, is that of its number
 abbrev pub StepIsOfTask : Type 0
 StepIsOfTask =
-    (moment : ℕ) (past : List Item) (p : Parts) (f : Free) (n : ℕ) (x : Task) (o : Outcome) (said : Said) (second : Bool) (t : m.Side)
+    (moment : ℕ) (past : List Item) (p : Parts) (f : Free) (n : ℕ) (x : Task) (o : Outcome) (said : Said)
+    (second : Bool) (t : m.Side)
     → task_at n p ≡ Some x → (p.closed && is_publishing x.job) ≡ false
     → StepsJob (seen_job p.kept.pending x.job) x.number (side_of moment past (without_task x.number p) f)
     (seen_up past (without_task x.number p)) o said second t
@@ -30,7 +31,8 @@ StepIsOfTask =
 -- where the journal is closed, a task that publishes or resolves ends
 abbrev pub ClosedEndsTask : Type 0
 ClosedEndsTask =
-    (moment : ℕ) (past : List Item) (p : Parts) (f : Free) (n : ℕ) (x : Task) (o : Outcome) (said : Said) (second : Bool)
+    (moment : ℕ) (past : List Item) (p : Parts) (f : Free) (n : ℕ) (x : Task) (o : Outcome) (said : Said)
+    (second : Bool)
     → task_at n p ≡ Some x → (p.closed && is_publishing x.job) ≡ true → IsQuiet said reply.Closed
     → Steps (m.task_at (seen_up past p) n) (side_of moment past p f) (seen_up past p) o said second
     (side_of moment past (without_task x.number p) f)
@@ -40,4 +42,5 @@ abbrev pub NoTaskSteps : Type 0
 NoTaskSteps =
     (moment : ℕ) (past : List Item) (p : Parts) (f : Free) (n : ℕ) (o : Outcome) (said : Said) (second : Bool)
     → task_at n p ≡ None → IsQuiet said reply.NoTask
-    → Steps (m.task_at (seen_up past p) n) (side_of moment past p f) (seen_up past p) o said second (side_of moment past p f)
+    → Steps (m.task_at (seen_up past p) n) (side_of moment past p f) (seen_up past p) o said second
+    (side_of moment past p f)
