@@ -10,3 +10,5 @@ pub mod PendingEnds
 pub mod ResolveSteps
 pub mod FaultsEnd
 pub mod DatabaseForms
+pub mod Taken
+pub mod StepsSeen

@@ -1,6 +1,7 @@
 -- A client of which one part was replaced still fits.
 use Rattle.std.proofs.Common.{◌≡◌, ◌∙◌, ◌==◌, ℕ, suc, Bool, true, false, not, cond, List, [], ◌∷◌, ◌++◌, filter, find, Option, Some, None, refl, sym, subst}
-use Rattle.std.specs.List.{AllByRecursion, flat_map}
+use Rattle.std.specs.List.{AllByRecursion, flat_map, list_any}
+use Rattle.std.proofs.lemmas.Bool.{or_parts}
 use Rattle.std.proofs.lemmas.List.Folds.{list_any-append}
 use Rattle.std.proofs.lemmas.Option.{same_Some}
 use Rattle.bcv_base.specs.declared.id.Id16.{Id16}
@@ -22,10 +23,11 @@ use Rattle.bcv_model.specs.declared.kept.Kept.{Kept}
 use Rattle.bcv_publish.specs.State as publish
 use Rattle.bcv_upload.specs.UploadWork as uploading
 use Rattle.bcv_clientstate.specs.Fits.{FitsJob, FitsPublish, FitsTask}
+use Rattle.bcv_clientstate.specs.PartRefusals.{is_publishing}
 use Rattle.bcv_clientstate.specs.Parts.{Job, Fetching, Polling, Creating, Copying, Uploading, Cleaning, Resolving, Task, Parts, mine_of, names_of_job, names_of_pending}
 use Rattle.bcv_clientstate.specs.Stages.{IsStagedTask}
 use Rattle.bcv_clientstate.proofs.Growth.{grows}
-use Rattle.bcv_clientlaws.specs.OtherParts.{EntriesFit, FitsWithoutTask, FoundTaskFits, Includes, KeepsTaken, KeptFits, LatestFits, NamesSuffice, OthersLeaveFits, ShutFits, TaskFitsLast, TasksFit, TxnsFit}
+use Rattle.bcv_clientlaws.specs.OtherParts.{EntriesFit, FitsWithoutTask, FoundTaskFits, Includes, KeepsTaken, KeptFits, KeptFitsQuietly, LatestFits, NamesSuffice, OthersLeaveFits, ShutFits, TaskFitsLast, TasksFit, TxnsFit}
 use Rattle.bcv_clientlaws.specs.TaskLists.{with_tasks}
 
 -- ---- names
@@ -332,6 +334,45 @@ kept_fits log p entries k known fits is keeps =
       tasks =
           all_suffice (mine_of p) (mine_of q) p.id k log p.tasks (client_is_mine q) (tasks_are_mine q)
           (all_kept (mine_of p) p.id p.kept k log p.tasks keeps fits.tasks);
+      staged = fits.staged;
+      cached = fits.cached;
+    }
+
+-- while none publishes
+quiet_job : (mine : List Id16) (writer : Id16) (k after : Kept) (log : List Entry) (j : Job) → is_publishing j ≡ false → FitsJob mine writer k log j → FitsJob mine writer after log j
+quiet_job mine writer k after log (Fetching access txn page) quiet fits = tt
+quiet_job mine writer k after log Polling quiet fits = tt
+quiet_job mine writer k after log (Creating block retention id) quiet fits = fits
+quiet_job mine writer k after log (Copying s) quiet fits = fits
+quiet_job mine writer k after log (Uploading s view) quiet fits = absurd (let both : true ≡ false = quiet in cc)
+quiet_job mine writer k after log (Cleaning s) quiet fits = fits
+quiet_job mine writer k after log Resolving quiet fits = tt
+
+all_quiet : (mine : List Id16) (writer : Id16) (k after : Kept) (log : List Entry) (ts : List Task) → list_any (λ (t : Task). is_publishing t.job) ts ≡ false
+    → AllByRecursion (FitsTask mine writer k log) ts → AllByRecursion (FitsTask mine writer after log) ts
+all_quiet mine writer k after log [] quiet fits = tt
+all_quiet mine writer k after log (t ∷ ts) quiet fits =
+    let q = or_parts (is_publishing t.job) (list_any (λ (x : Task). is_publishing x.job) ts) quiet in
+    (quiet_job mine writer k after log t.job q.0 fits.0, all_quiet mine writer k after log ts q.1 fits.1)
+
+pub kept_fits_quietly : KeptFitsQuietly
+kept_fits_quietly log p entries k known fits is quiet =
+    let q : Parts = record p { kept = k; known = known } in
+    record {
+      named = is.named;
+      is_id = fits.is_id;
+      ordered = is.ordered;
+      locals = is.locals;
+      known_order = is.are_known.order;
+      known_apart = is.are_known.apart;
+      known = is.are_known.fits;
+      pending = is.pending;
+      latest = fits.latest;
+      seen = fits.seen;
+      txns = fits.txns;
+      tasks =
+          all_suffice (mine_of p) (mine_of q) p.id k log p.tasks (client_is_mine q) (tasks_are_mine q)
+          (all_quiet (mine_of p) p.id p.kept k log p.tasks quiet fits.tasks);
       staged = fits.staged;
       cached = fits.cached;
     }

@@ -54,8 +54,9 @@ use Rattle.bcv_clientstate.specs.Parts.{Job, Fetching, Polling, Creating, Copyin
 use Rattle.bcv_clientstate.specs.SeenContainer.{HasBase}
 use Rattle.bcv_clientstate.proofs.Bases.{stays}
 use Rattle.bcv_clientstate.proofs.Growth.{all_kept, some_kept}
+use Rattle.bcv_clientlaws.proofs.OtherParts.{task_fits_last}
 use Rattle.bcv_clientlaws.proofs.Appended.{entry_later, known_later, latest_later, local_later, seen_later, txn_later}
-use Rattle.bcv_clientlaws.specs.OwnEntries.{AreOfBlocks, BlocksLeaveFits, CleanupDeletes, CleanupFits, CleanupIsRefused, CleanupReadsOn, CopyFits, CopyIsRefused, CopyWorks, CreateFits, GoesOnAs, IsIntended, IsOwnWork, IsSameUpload, PublicationFits, UploadFits, UploadIsRefused, UploadWorks}
+use Rattle.bcv_clientlaws.specs.OwnEntries.{AreOfBlocks, BlocksLeaveFits, CleanupDeletes, CleanupFits, CleanupIsRefused, CleanupReadsOn, CopyFits, CopyIsRefused, CopyWorks, CreateFits, GoesOnAs, IsIntended, IsOwnWork, IsSameUpload, PublicationFits, TaskGoesOnFits, UploadFits, UploadIsRefused, UploadWorks}
 
 -- ---- whatever is appended
 
@@ -129,6 +130,10 @@ pub blocks_leave_fits : BlocksLeaveFits
 blocks_leave_fits log own p entries fits quiet are =
     appended log own p entries fits quiet
     (some_kept (FitsPending (history_of log) p.id) (FitsPending (history_of (log ++ own)) p.id) (still_pending log own p.id are) p.kept.pending fits.pending)
+
+pub task_goes_on_fits : TaskGoesOnFits
+task_goes_on_fits mine log own p entries t fits quiet are one staged =
+    task_fits_last mine (log ++ own) p entries t (blocks_leave_fits log own p entries fits quiet are) one staged
 
 -- ---- publications
 

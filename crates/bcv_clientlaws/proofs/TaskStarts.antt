@@ -22,32 +22,36 @@ use Rattle.bcv_dbcopy.specs.declared.plan.CopyPlan.TheVariants as plan
 use Rattle.bcv_dbcopy.specs.State as copy
 use Rattle.bcv_dbmap.specs.Past.{has_version}
 use Rattle.bcv_dbmap.specs.Sound.{Sound}
+use Rattle.bcv_dbmap.proofs.Keys.{all_found, keyed_key}
 use Rattle.bcv_machine.specs.Refusals as refusals
 use Rattle.bcv_machine.specs.Refusals.{UnlessRefused, first_reason}
-use Rattle.bcv_machine.specs.Starting.{Publishes, StartsAs, left_at_start, started, touched_count, upload_blocks}
+use Rattle.bcv_machine.specs.Starting.{Publishes, Starts, StartsAs, left_at_start, started, touched_count, upload_blocks, upload_of}
 use Rattle.bcv_machine.specs.State as m
 use Rattle.bcv_machine.specs.State.{with_up}
 use Rattle.bcv_model.specs.declared.kept.PendingPub.{PendingPub}
 use Rattle.bcv_model.specs.declared.reply.Reply.{Reply}
 use Rattle.bcv_model.specs.declared.reply.Reply.TheVariants as reply
+use Rattle.bcv_model.specs.Commits.{writes_of}
+use Rattle.bcv_model.specs.Notes.{kept_name}
 use Rattle.bcv_publish.specs.State as publish
 use Rattle.bcv_slots.specs.Numbered.{least_free}
 use Rattle.bcv_upload.specs.BlockText.{IsViewOf}
 use Rattle.bcv_upload.specs.State as upload
+use Rattle.bcv_clientstate.specs.BaseLaws.{FitsLocal}
 use Rattle.bcv_clientstate.specs.Fits.{FitsJob, FitsPublish}
 use Rattle.bcv_clientstate.specs.PartRefusals.{is_publishing, runs_publication}
 use Rattle.bcv_clientstate.specs.Parts.{Job, Fetching, Polling, Creating, Copying, Uploading, Cleaning, Resolving, Task, Parts, names_of_job}
 use Rattle.bcv_clientstate.specs.SeenClient.{Free, seen_job, seen_task, seen_up, side_of}
 use Rattle.bcv_clientstate.specs.SeenContainer.{HasBase, container_of}
-use Rattle.bcv_clientstate.specs.SeenKept.{seen_pending}
+use Rattle.bcv_clientstate.specs.SeenKept.{seen_kept, seen_pending}
 use Rattle.bcv_clientstate.specs.Stages.{IsStagedJob}
-use Rattle.bcv_clientstate.specs.StartRefusals.{kind_reasons, runs_all, start_reason}
+use Rattle.bcv_clientstate.specs.StartRefusals.{asked_over, kind_reasons, runs_all, start_reason}
 use Rattle.bcv_clientstate.proofs.Bases.{base_block, base_database, pages_len}
 use Rattle.bcv_clientstate.proofs.GoneLaws.{found_among}
 use Rattle.bcv_clientstate.proofs.PartRefusals.{map_len}
 use Rattle.bcv_clientstate.proofs.Stages.{new_is_staged}
-use Rattle.bcv_clientstate.proofs.StartRefusals.{poll_is_refused, resolve_is_refused, start_is_refused}
-use Rattle.bcv_clientlaws.specs.Starts.{CleanupIsNew, CopyHasLeft, CopyIsNew, CreateIsNew, FetchStarts, NewCleanupFits, NewCopyFits, NewCreateFits, NewUploadFits, PollStarts, QuietTaskFits, RefusesFetch, RefusesPoll, RefusesResolve, RefusesStart, ResolveStarts, StartsAsAsked, StartsWithoutPending, UploadHasLeft, UploadIsNew, with_job}
+use Rattle.bcv_clientstate.proofs.StartRefusals.{poll_is_refused, resolve_is_refused, start_is_refused, upload_is_over}
+use Rattle.bcv_clientlaws.specs.Starts.{CleanupIsNew, CleanupStarts, CopyHasLeft, CopyIsNew, CopyStarts, CreateIsNew, CreateStarts, FetchStarts, NewCleanupFits, NewCopyFits, NewCreateFits, NewUploadFits, PollStarts, QuietTaskFits, RefusesFetch, RefusesPoll, RefusesResolve, RefusesStart, RefusesUpload, ResolveStarts, StartsAsAsked, StartsWithoutPending, UploadHasLeft, UploadIsNew, UploadStarts, kind_asked, with_new_task}
 use Rattle.bcv_clientlaws.specs.TaskLists.{task_numbers}
 use Rattle.bcv_clientlaws.proofs.OtherParts.{task_fits_last}
 use Rattle.bcv_clientlaws.proofs.TaskLists.{free_is_free, task_comes}
@@ -134,7 +138,7 @@ unused moment past p f id none quiet fresh =
 -- ---- asks
 
 starts_as : (moment : ℕ) (past : List Item) (p : Parts) (f : Free) (n left : ℕ) (j : Job) (k : m.Job) → least_free (task_numbers p) ≡ Some n → seen_job p.kept.pending j ≡ k
-    → StartsAs (side_of moment past p f) (seen_up past p) k left (reply.Task n left) (side_of moment past (with_job n j p) f)
+    → StartsAs (side_of moment past p f) (seen_up past p) k left (reply.Task n left) (side_of moment past (with_new_task n j p) f)
 starts_as moment past p f n left j k free is = (
   free_is_free past p ∙ free,
   refl,
@@ -147,7 +151,7 @@ starts_as_asked moment past p f kind n id j free least is_id fresh is =
     let s : m.Side = side_of moment past p f in
     let u : m.Up = seen_up past p in
     let r : Reply = reply.Task n (left_at_start (container_of moment past) kind) in
-    let t : m.Side = side_of moment past (with_job n j p) f in
+    let t : m.Side = side_of moment past (with_new_task n j p) f in
     subst (λ (o : Option Reply). UnlessRefused o (with_up s u) r t (Publishes s u kind id r t)) (sym (start_is_refused past p kind ∙ free)) (
       is_id,
       unused moment past p f id (none_pending p kind free) (none_runs p kind free) fresh,
@@ -164,7 +168,7 @@ pub poll_starts : PollStarts
 poll_starts moment past p f n free least =
     let s : m.Side = side_of moment past p f in
     let u : m.Up = seen_up past p in
-    let t : m.Side = side_of moment past (with_job n Polling p) f in
+    let t : m.Side = side_of moment past (with_new_task n Polling p) f in
     subst (λ (o : Option Reply). UnlessRefused o (with_up s u) (reply.Task n 1) t (StartsAs s u m.Polling 1 (reply.Task n 1) t)) (sym (poll_is_refused past p ∙ free))
     (starts_as moment past p f n 1 Polling m.Polling least refl)
 
@@ -178,7 +182,7 @@ pub resolve_starts : ResolveStarts
 resolve_starts moment past p f n free least =
     let s : m.Side = side_of moment past p f in
     let u : m.Up = seen_up past p in
-    let t : m.Side = side_of moment past (with_job n Resolving p) f in
+    let t : m.Side = side_of moment past (with_new_task n Resolving p) f in
     subst (λ (o : Option Reply). UnlessRefused o (with_up s u) (reply.Task n 1) t (StartsAs s u m.Resolving 1 (reply.Task n 1) t)) (sym (resolve_is_refused past p ∙ free))
     (starts_as moment past p f n 1 Resolving m.Resolving least refl)
 
@@ -248,6 +252,53 @@ copy_has_left c (plan.Remove name) writer id = record { left_is = refl }
 
 pub upload_has_left : UploadHasLeft
 upload_has_left moment past base view size touched writer id sound has of_view = record { left_is = left_is moment past base view size touched sound has of_view writer id }
+
+-- ---- each ask
+
+-- a publication starts where nothing is pending
+start_alone : (moment : ℕ) (past : List Item) (p : Parts) (f : Free) (kind : m.Kind) (n : ℕ) (id : Id16) (j : Job) → start_reason p kind ≡ None → least_free (task_numbers p) ≡ Some n
+    → IsId id → has_version past id ≡ false → seen_job None j ≡ m.Publishing (started (container_of moment past) kind id)
+    → Starts (side_of moment past p f) (seen_up past p) kind id (reply.Task n (left_at_start (container_of moment past) kind)) (side_of moment past (with_new_task n j p) f)
+start_alone moment past p f kind n id j free least is_id fresh is =
+    starts_as_asked moment past p f kind n id j free least is_id fresh (ap (λ (o : Option PendingPub). seen_job o j) (none_pending p kind free) ∙ is)
+
+pub create_starts : CreateStarts
+create_starts moment past p f block retention n id free least is_id fresh =
+    start_alone moment past p f (m.Creating block retention) n id (Creating block retention id) free least is_id fresh refl
+
+pub copy_starts : CopyStarts
+copy_starts moment past p f x n id free least is_id fresh =
+    subst (λ (left : ℕ). Starts (side_of moment past p f) (seen_up past p) (kind_asked x) id (reply.Task n left) (side_of moment past (with_new_task n (Copying (copy.new_task x p.id id)) p) f))
+    (sym (copy_has_left (container_of moment past) x p.id id).left_is)
+    (start_alone moment past p f (kind_asked x) n id (Copying (copy.new_task x p.id id)) free least is_id fresh (copy_is_new (container_of moment past) x p.id id))
+
+pub cleanup_starts : CleanupStarts
+cleanup_starts moment past p f n id free least is_id fresh =
+    start_alone moment past p f m.Cleaning n id (Cleaning (cleanup.new_cleanup p.id id)) free least is_id fresh refl
+
+pub upload_starts : UploadStarts
+upload_starts moment log entries p f db l base size touched n id sound fits found over free least is_id fresh =
+    let past : List Item = history_of log in
+    let view : List Writes = map writes_of l.commits in
+    let kind : m.Kind = m.Uploading base.entry.name base.number view in
+    let j : Job = Uploading (upload.new_upload base size touched p.id id) view in
+    let t : m.Side = side_of moment past (with_new_task n j p) f in
+    let name : l.entry.name ≡ db = keyed_key kept_name db p.kept.locals l found in
+    let same : m.Uploading db l.number view ≡ kind =
+    ap (λ (d : List ℕ). m.Uploading d l.number view) (sym name ∙ ap (λ (e : DbEntry). e.name) (sym over.entry)) ∙ ap (λ (k : ℕ). m.Uploading base.entry.name k view) (sym over.number) in
+    let asked : upload_of (seen_kept p.kept) db ≡ kind = upload_is_over p db ∙ ap (asked_over db) found ∙ same in
+    let has : HasBase past base.number base.block base.entry =
+    subst (λ (k : ℕ). HasBase past k base.block base.entry) (sym over.number)
+    (subst (λ (b : ℕ). HasBase past l.number b base.entry) (sym over.block)
+    (subst (λ (e : DbEntry). HasBase past l.number l.block e) (sym over.entry) (all_found kept_name (FitsLocal past) db p.kept.locals l fits.locals found))) in
+    subst (λ (k : m.Kind). Starts (side_of moment past p f) (seen_up past p) k id (reply.Task n (upload.left_of (upload.new_upload base size touched p.id id))) t) (sym asked)
+    (subst (λ (left : ℕ). Starts (side_of moment past p f) (seen_up past p) kind id (reply.Task n left) t)
+    (sym (upload_has_left moment past base view size touched p.id id sound has over.of_view).left_is)
+    (start_alone moment past p f kind n id j (ap (start_reason p) (sym same) ∙ free) least is_id fresh (upload_is_new moment past base view size touched p.id id sound has over.of_view)))
+
+pub refuses_upload : RefusesUpload
+refuses_upload moment past p f db id r why =
+    refuses_start moment past p f (upload_of (seen_kept p.kept) db) id r (ap (start_reason p) (upload_is_over p db) ∙ why)
 
 -- ---- that they fit
 

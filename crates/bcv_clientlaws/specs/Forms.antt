@@ -54,10 +54,14 @@ pub record AreInForm (block : ℕ) (k : Kept) (others : List Known) : Type 0 whe
 
 -- each one that is found
 abbrev pub FoundInForm : Type 0
-FoundInForm = (block : ℕ) (k : Kept) (others : List Known) (db : List ℕ) (l : Local) → AreInForm block k others → keyed kept_name db k.locals ≡ Some l → LocalInForm block l
+FoundInForm =
+    (block : ℕ) (k : Kept) (others : List Known) (db : List ℕ) (l : Local) → AreInForm block k others
+    → keyed kept_name db k.locals ≡ Some l → LocalInForm block l
 
 abbrev pub FoundKnownInForm : Type 0
-FoundKnownInForm = (block : ℕ) (k : Kept) (others : List Known) (db : List ℕ) (x : Known) → AreInForm block k others → keyed known_name db others ≡ Some x → KnownInForm block x
+FoundKnownInForm =
+    (block : ℕ) (k : Kept) (others : List Known) (db : List ℕ) (x : Known) → AreInForm block k others
+    → keyed known_name db others ≡ Some x → KnownInForm block x
 
 -- ---- what keeps them so
 
@@ -72,12 +76,15 @@ NoteInForm block (note.Void id) = Unit {0}
 NoteInForm block (note.Revert db) = Unit {0}
 
 abbrev pub NotesKeepForm : Type 0
-NotesKeepForm = (block : ℕ) (k : Kept) (others : List Known) (x : bytes.Note) → AreInForm block k others → NoteInForm block x → AreInForm block (after_note k x) others
+NotesKeepForm =
+    (block : ℕ) (k : Kept) (others : List Known) (x : bytes.Note) → AreInForm block k others
+    → NoteInForm block x → AreInForm block (after_note k x) others
 
 -- a manifest of the block size that was read
 abbrev pub ReadsKeepForm : Type 0
 ReadsKeepForm =
-    (block : ℕ) (k : Kept) (others : List Known) (m : Manifest) → AreInForm block k others → MeetsRules m → m.block ≡ block → AreInForm block k (known_of k m)
+    (block : ℕ) (k : Kept) (others : List Known) (m : Manifest) → AreInForm block k others → MeetsRules m
+    → m.block ≡ block → AreInForm block k (known_of k m)
 
 abbrev pub CommitsKeepForm : Type 0
 CommitsKeepForm =
@@ -86,18 +93,21 @@ CommitsKeepForm =
 
 abbrev pub RevertsKeepForm : Type 0
 RevertsKeepForm =
-    (block : ℕ) (db : List ℕ) (l : Local) (p : Parts) → AreInForm block p.kept p.known → keyed kept_name db p.kept.locals ≡ Some l
+    (block : ℕ) (db : List ℕ) (l : Local) (p : Parts) → AreInForm block p.kept p.known
+    → keyed kept_name db p.kept.locals ≡ Some l
     → AreInForm block (reverted l (note.Revert db) p).kept (reverted l (note.Revert db) p).known
 
 -- a publication that was made, whose manifest is known
 abbrev pub EndsKeepForm : Type 0
 EndsKeepForm =
-    (block n : ℕ) (id : Id16) (k : Kept) (others : List Known) (m : Manifest) → AreInForm block k others → MeetsRules m → m.block ≡ block
+    (block n : ℕ) (id : Id16) (k : Kept) (others : List Known) (m : Manifest) → AreInForm block k others
+    → MeetsRules m → m.block ≡ block
     → AreInForm block (after_note k (note.Done id n)) (known_of (after_note k (note.Done id n)) m)
 
 abbrev pub ResolvesKeepForm : Type 0
 ResolvesKeepForm =
-    (block n : ℕ) (id : Id16) (p : Parts) → AreInForm block p.kept p.known → AreInForm block (resolved_at n id p).kept (resolved_at n id p).known
+    (block n : ℕ) (id : Id16) (p : Parts) → AreInForm block p.kept p.known
+    → AreInForm block (resolved_at n id p).kept (resolved_at n id p).known
 
 -- ---- a client that comes up
 
@@ -111,13 +121,16 @@ FoldsAreInForm = (notes : List bytes.Note) (k : Kept) → Folds nothing_kept not
 
 -- a base is in form over the container's block size
 abbrev pub BasesAreInForm : Type 0
-BasesAreInForm = (past : List Item) (number block : ℕ) (e : DbEntry) → Sound past → HasBase past number block e → IsInForm (block_in (last_of past)) block e
+BasesAreInForm =
+    (past : List Item) (number block : ℕ) (e : DbEntry) → Sound past → HasBase past number block e
+    → IsInForm (block_in (last_of past)) block e
 
 -- so is a client that fits a log, where what is being uploaded is
 abbrev pub FitsAreInForm : Type 0
 FitsAreInForm =
     (log : List Entry) (p : Parts) (entries : List cache.Entry) → IsSoundLog log → Fits p entries log
-    → IfSome p.kept.pending (PendingInForm (block_in (last_of (history_of log)))) → AreInForm (block_in (last_of (history_of log))) p.kept p.known
+    → IfSome p.kept.pending (PendingInForm (block_in (last_of (history_of log))))
+    → AreInForm (block_in (last_of (history_of log))) p.kept p.known
 
 -- some databases have commits
 abbrev pub SomeLocals : List Local → Type 0
@@ -127,5 +140,6 @@ SomeLocals (l ∷ ls) = Unit {0}
 -- where some have, their block size is the container's
 abbrev pub FormIsContainers : Type 0
 FormIsContainers =
-    (past : List Item) (block : ℕ) (k : Kept) (others : List Known) → Sound past → AllByRecursion (FitsLocal past) k.locals → AreInForm block k others
+    (past : List Item) (block : ℕ) (k : Kept) (others : List Known) → Sound past
+    → AllByRecursion (FitsLocal past) k.locals → AreInForm block k others
     → SomeLocals k.locals → block ≡ block_in (last_of past)

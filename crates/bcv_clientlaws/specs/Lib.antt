@@ -7,3 +7,4 @@ pub mod Starts
 pub mod Resolves
 pub mod FaultEnds
 pub mod Forms
+pub mod TaskSteps

@@ -19,12 +19,15 @@ seen_of m = record { block = Some m.block; number = m.number }
 
 -- it is so in the log that has the manifest
 abbrev pub ReadIsSeen : Type 0
-ReadIsSeen = (log : List Entry) (l : Latest) → IsSoundLog log → IsKept log l → FitsSeen (history_of log) (seen_of l.manifest)
+ReadIsSeen =
+    (log : List Entry) (l : Latest) → IsSoundLog log → IsKept log l
+    → FitsSeen (history_of log) (seen_of l.manifest)
 
 -- the client knows the manifest's databases then, whatever it has seen that is so
 abbrev pub ReadFits : Type 0
 ReadFits =
-    (log : List Entry) (p : Parts) (entries : List cache.Entry) (l : Latest) (seen : Seen) → IsSoundLog log → Fits p entries log → IsKept log l
+    (log : List Entry) (p : Parts) (entries : List cache.Entry) (l : Latest) (seen : Seen) → IsSoundLog log
+    → Fits p entries log → IsKept log l
     → FitsSeen (history_of log) seen → Fits (with_read l seen p) entries log
 
 -- a poll meets no manifest that contradicts what was seen

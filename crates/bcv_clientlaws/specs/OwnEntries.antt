@@ -32,9 +32,11 @@ use Rattle.bcv_publish.specs.State as publish
 use Rattle.bcv_upload.specs.State as upload
 use Rattle.bcv_upload.specs.UploadPut as putting
 use Rattle.bcv_upload.specs.UploadWork as uploading
-use Rattle.bcv_clientstate.specs.Fits.{Fits, FitsJob}
+use Rattle.bcv_clientstate.specs.Fits.{Fits, FitsJob, FitsTask}
 use Rattle.bcv_clientstate.specs.PartRefusals.{runs_publication}
-use Rattle.bcv_clientstate.specs.Parts.{Copying, Uploading, Cleaning, Parts}
+use Rattle.bcv_clientstate.specs.Parts.{Copying, Uploading, Cleaning, Task, Parts}
+use Rattle.bcv_clientstate.specs.Stages.{IsStagedTask}
+use Rattle.bcv_clientlaws.specs.TaskLists.{with_task}
 
 -- ---- blocks
 
@@ -51,7 +53,16 @@ AreOfBlocks own = AllByRecursion IsOfBlock own
 -- a client without the task that publishes fits a log with such entries more
 abbrev pub BlocksLeaveFits : Type 0
 BlocksLeaveFits =
-    (log own : List Entry) (p : Parts) (entries : List cache.Entry) → Fits p entries log → runs_publication p ≡ false → AreOfBlocks own → Fits p entries (log ++ own)
+    (log own : List Entry) (p : Parts) (entries : List cache.Entry) → Fits p entries log
+    → runs_publication p ≡ false → AreOfBlocks own → Fits p entries (log ++ own)
+
+-- and with the task as it goes on, where that fits
+abbrev pub TaskGoesOnFits : Type 0
+TaskGoesOnFits =
+    (mine : List Id16) (log own : List Entry) (p : Parts) (entries : List cache.Entry) (t : Task)
+    → Fits p entries log
+    → runs_publication p ≡ false → AreOfBlocks own → FitsTask mine p.id p.kept (log ++ own) t → IsStagedTask t
+    → Fits (with_task t p) entries (log ++ own)
 
 -- ---- publications
 
@@ -64,14 +75,17 @@ IsIntended id block _ (Some u) = ⊥
 -- the pending publication is made, and the client fits the log with it
 abbrev pub PublicationFits : Type 0
 PublicationFits =
-    (log own : List Entry) (p : Parts) (entries : List cache.Entry) (x : PendingPub) (old : Manifest) (plan : EditPlan) (moment etag : ℕ)
-    → Fits p entries log → runs_publication p ≡ false → p.kept.pending ≡ Some x → IsIntended x.id old.block plan x.upload
+    (log own : List Entry) (p : Parts) (entries : List cache.Entry) (x : PendingPub) (old : Manifest)
+    (plan : EditPlan) (moment etag : ℕ)
+    → Fits p entries log → runs_publication p ≡ false → p.kept.pending ≡ Some x
+    → IsIntended x.id old.block plan x.upload
     → IsAppended own (applied old plan x.id p.id moment) etag → Fits p entries (log ++ own)
 
 -- so is a container
 abbrev pub CreateFits : Type 0
 CreateFits =
-    (log own : List Entry) (p : Parts) (entries : List cache.Entry) (x : PendingPub) (block retention moment etag : ℕ)
+    (log own : List Entry) (p : Parts) (entries : List cache.Entry) (x : PendingPub)
+    (block retention moment etag : ℕ)
     → Fits p entries log → runs_publication p ≡ false → p.kept.pending ≡ Some x → x.upload ≡ None
     → IsAppended own (first_manifest block retention x.id p.id moment) etag → Fits p entries (log ++ own)
 
@@ -86,19 +100,25 @@ pub record GoesOnAs (after : List Entry) (p q : publish.State) : Type 0 where
 -- a task goes on and fits, where its publication goes on and it owns its blocks
 abbrev pub CopyFits : Type 0
 CopyFits =
-    (mine : List Id16) (writer : Id16) (k : Kept) (log own : List Entry) (s t : copy.State) → FitsJob mine writer k log (Copying s) → AreOfBlocks own
-    → copy.IsRunning t → GoesOnAs (log ++ own) s.publish t.publish → copying.OwnsBlocks mine (log ++ own) t → FitsJob mine writer k (log ++ own) (Copying t)
+    (mine : List Id16) (writer : Id16) (k : Kept) (log own : List Entry) (s t : copy.State)
+    → FitsJob mine writer k log (Copying s) → AreOfBlocks own
+    → copy.IsRunning t → GoesOnAs (log ++ own) s.publish t.publish → copying.OwnsBlocks mine (log ++ own) t
+    → FitsJob mine writer k (log ++ own) (Copying t)
 
 abbrev pub UploadFits : Type 0
 UploadFits =
-    (mine : List Id16) (writer : Id16) (k : Kept) (log own : List Entry) (s t : upload.State) (view : List Writes) → FitsJob mine writer k log (Uploading s view)
-    → AreOfBlocks own → upload.IsRunning t → GoesOnAs (log ++ own) s.publish t.publish → t.base ≡ s.base → t.size ≡ s.size → t.touched ≡ s.touched
+    (mine : List Id16) (writer : Id16) (k : Kept) (log own : List Entry) (s t : upload.State)
+    (view : List Writes) → FitsJob mine writer k log (Uploading s view)
+    → AreOfBlocks own → upload.IsRunning t → GoesOnAs (log ++ own) s.publish t.publish → t.base ≡ s.base
+    → t.size ≡ s.size → t.touched ≡ s.touched
     → uploading.OwnsBlocks mine (log ++ own) view t → FitsJob mine writer k (log ++ own) (Uploading t view)
 
 abbrev pub CleanupFits : Type 0
 CleanupFits =
-    (mine : List Id16) (writer : Id16) (k : Kept) (log own : List Entry) (s t : cleanup.State) → FitsJob mine writer k log (Cleaning s) → AreOfBlocks own
-    → cleanup.IsRunning t → GoesOnAs (log ++ own) s.publish t.publish → cleaning.HasTaken (log ++ own) t → FitsJob mine writer k (log ++ own) (Cleaning t)
+    (mine : List Id16) (writer : Id16) (k : Kept) (log own : List Entry) (s t : cleanup.State)
+    → FitsJob mine writer k log (Cleaning s) → AreOfBlocks own
+    → cleanup.IsRunning t → GoesOnAs (log ++ own) s.publish t.publish → cleaning.HasTaken (log ++ own) t
+    → FitsJob mine writer k (log ++ own) (Cleaning t)
 
 -- what a step appends is of blocks, and its publication goes on
 pub record IsOwnWork (own after : List Entry) (p q : publish.State) : Type 0 where
@@ -107,8 +127,10 @@ pub record IsOwnWork (own after : List Entry) (p q : publish.State) : Type 0 whe
 
 abbrev pub CopyWorks : Type 0
 CopyWorks =
-    (o : Outcome) (before after own : List Entry) (ids : List Id16) (seen : Seen) (s t : copy.State) → IfSome s.publish.latest (IsKept after)
-    → copying.WorkLeaves s.publish.latest seen s work.More t → copying.SoundWorkEnds o before after own ids s.publish.latest seen s work.More t
+    (o : Outcome) (before after own : List Entry) (ids : List Id16) (seen : Seen) (s t : copy.State)
+    → IfSome s.publish.latest (IsKept after)
+    → copying.WorkLeaves s.publish.latest seen s work.More t
+    → copying.SoundWorkEnds o before after own ids s.publish.latest seen s work.More t
     → IsOwnWork own after s.publish t.publish
 
 -- what an upload is of stays
@@ -119,7 +141,8 @@ pub record IsSameUpload (s t : upload.State) : Type 0 where
 
 abbrev pub UploadWorks : Type 0
 UploadWorks =
-    (o : Outcome) (before after own : List Entry) (ids : List Id16) (fetch : Bool) (seen : Seen) (text : List ℕ) (s t : upload.State)
+    (o : Outcome) (before after own : List Entry) (ids : List Id16) (fetch : Bool) (seen : Seen) (text : List ℕ)
+    (s t : upload.State)
     → IfSome s.publish.latest (IsKept after) → uploading.WorkLeaves s.publish.latest fetch seen s work.More t
     → uploading.SoundWorkEnds o before after own ids s.publish.latest fetch seen text s work.More t
     → IsOwnWork own after s.publish t.publish × IsSameUpload s t
@@ -127,27 +150,35 @@ UploadWorks =
 -- a cleanup's get, and its deletion of a block
 abbrev pub CleanupReadsOn : Type 0
 CleanupReadsOn =
-    (o : Outcome) (after : List Entry) (seen : Seen) (s t : cleanup.State) → SoundGetEnds o after seen s.edit s.publish work.More t.publish
+    (o : Outcome) (after : List Entry) (seen : Seen) (s t : cleanup.State)
+    → SoundGetEnds o after seen s.edit s.publish work.More t.publish
     → GoesOnAs after s.publish t.publish
 
 abbrev pub CleanupDeletes : Type 0
 CleanupDeletes =
-    (o : Outcome) (after own : List Entry) (i : Id16) (at : ℕ) (s t : cleanup.State) → IfSome s.publish.latest (IsKept after)
-    → cleaning.DeleteLeaves s work.More t → cleaning.SoundDeleteEnds o own i at work.More → IsOwnWork own after s.publish t.publish
+    (o : Outcome) (after own : List Entry) (i : Id16) (at : ℕ) (s t : cleanup.State)
+    → IfSome s.publish.latest (IsKept after)
+    → cleaning.DeleteLeaves s work.More t → cleaning.SoundDeleteEnds o own i at work.More
+    → IsOwnWork own after s.publish t.publish
 
 -- ---- a put that is refused, after which a task goes on
 
 abbrev pub CopyIsRefused : Type 0
 CopyIsRefused =
-    (mine : List Id16) (writer : Id16) (k : Kept) (log : List Entry) (moment : ℕ) (s t : copy.State) (read : Latest) → FitsJob mine writer k log (Copying s)
+    (mine : List Id16) (writer : Id16) (k : Kept) (log : List Entry) (moment : ℕ) (s t : copy.State)
+    (read : Latest) → FitsJob mine writer k log (Copying s)
     → copies.PutLeaves moment s read put.Refused t → copy.IsRunning t → FitsJob mine writer k log (Copying t)
 
 abbrev pub UploadIsRefused : Type 0
 UploadIsRefused =
-    (mine : List Id16) (writer : Id16) (k : Kept) (log : List Entry) (moment : ℕ) (s t : upload.State) (view : List Writes) (read : Latest)
-    → FitsJob mine writer k log (Uploading s view) → putting.PutLeaves moment s read put.Refused t → upload.IsRunning t → FitsJob mine writer k log (Uploading t view)
+    (mine : List Id16) (writer : Id16) (k : Kept) (log : List Entry) (moment : ℕ) (s t : upload.State)
+    (view : List Writes) (read : Latest)
+    → FitsJob mine writer k log (Uploading s view) → putting.PutLeaves moment s read put.Refused t
+    → upload.IsRunning t → FitsJob mine writer k log (Uploading t view)
 
 abbrev pub CleanupIsRefused : Type 0
 CleanupIsRefused =
-    (mine : List Id16) (writer : Id16) (k : Kept) (log : List Entry) (moment : ℕ) (s t : cleanup.State) (read : Latest) → FitsJob mine writer k log (Cleaning s)
-    → sweeping.PutLeaves moment s read put.Refused t → cleanup.IsRunning t → FitsJob mine writer k log (Cleaning t)
+    (mine : List Id16) (writer : Id16) (k : Kept) (log : List Entry) (moment : ℕ) (s t : cleanup.State)
+    (read : Latest) → FitsJob mine writer k log (Cleaning s)
+    → sweeping.PutLeaves moment s read put.Refused t → cleanup.IsRunning t
+    → FitsJob mine writer k log (Cleaning t)

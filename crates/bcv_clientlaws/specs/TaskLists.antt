@@ -40,27 +40,34 @@ without_task n p = with_tasks (filter (λ (t : Task). not (t.number == n)) p.tas
 
 -- a task that is taken out
 abbrev pub TaskGoes : Type 0
-TaskGoes = (past : List Item) (n : ℕ) (p : Parts) → seen_up past (without_task n p) ≡ m.without_task (seen_up past p) n
+TaskGoes =
+    (past : List Item) (n : ℕ) (p : Parts) → seen_up past (without_task n p) ≡ m.without_task (seen_up past p) n
 
 -- one that is put last
 abbrev pub TaskComes : Type 0
 TaskComes =
-    (past : List Item) (t : Task) (p : Parts) → seen_up past (with_task t p) ≡ m.with_task (seen_up past p) t.number (seen_job p.kept.pending t.job)
+    (past : List Item) (t : Task) (p : Parts)
+    → seen_up past (with_task t p) ≡ m.with_task (seen_up past p) t.number (seen_job p.kept.pending t.job)
 
 -- a publication that goes on
 abbrev pub TaskGoesOn : Type 0
 TaskGoesOn =
-    (moment : ℕ) (past : List Item) (n : ℕ) (j : Job) (q : m.Publication) (p : Parts) (f : Free) → seen_job p.kept.pending j ≡ m.Publishing q
-    → side_of moment past (with_task (record { number = n; job = j }) p) f ≡ give_back n (Some q) (side_of moment past p f)
+    (moment : ℕ) (past : List Item) (n : ℕ) (j : Job) (q : m.Publication) (p : Parts) (f : Free)
+    → seen_job p.kept.pending j ≡ m.Publishing q
+    → side_of moment past (with_task (record { number = n; job = j }) p) f ≡ give_back n (Some q)
+    (side_of moment past p f)
 
 -- ---- one task
 
 abbrev pub TaskIsFound : Type 0
-TaskIsFound = (past : List Item) (n : ℕ) (p : Parts) → m.task_at (seen_up past p) n ≡ option_map (seen_task p.kept.pending) (task_at n p)
+TaskIsFound =
+    (past : List Item) (n : ℕ) (p : Parts)
+    → m.task_at (seen_up past p) n ≡ option_map (seen_task p.kept.pending) (task_at n p)
 
 -- it publishes or resolves
 abbrev pub JobIsBusy : Type 0
-JobIsBusy = (waiting : Option PendingPub) (j : Job) → refusals.ends_pending (seen_job waiting j) ≡ is_publishing j
+JobIsBusy =
+    (waiting : Option PendingPub) (j : Job) → refusals.ends_pending (seen_job waiting j) ≡ is_publishing j
 
 -- ---- numbers
 
@@ -71,4 +78,6 @@ abbrev pub TxnNumbersAre : Type 0
 TxnNumbersAre = (past : List Item) (p : Parts) → m.txn_numbers (seen_up past p) ≡ txn_numbers p
 
 abbrev pub FreeIsFree : Type 0
-FreeIsFree = (past : List Item) (p : Parts) → m.least_free (m.task_numbers (seen_up past p)) ≡ least_free (task_numbers p)
+FreeIsFree =
+    (past : List Item) (p : Parts)
+    → m.least_free (m.task_numbers (seen_up past p)) ≡ least_free (task_numbers p)

@@ -1,10 +1,11 @@
 //! Laws on what ties a client to a log. Each function does nothing: its clauses are the law.
 ghost use Rattle.bcv_clientlaws.specs.ManifestsRead.{ReadFits, ReadIsSeen, SeenIsSeenIn};
-ghost use Rattle.bcv_clientlaws.specs.OwnEntries.{BlocksLeaveFits, CleanupDeletes, CleanupFits, CleanupIsRefused, CleanupReadsOn, CopyFits, CopyIsRefused, CopyWorks, CreateFits, PublicationFits, UploadFits, UploadIsRefused, UploadWorks};
+ghost use Rattle.bcv_clientlaws.specs.OwnEntries.{BlocksLeaveFits, CleanupDeletes, CleanupFits, CleanupIsRefused, CleanupReadsOn, CopyFits, CopyIsRefused, CopyWorks, CreateFits, PublicationFits, TaskGoesOnFits, UploadFits, UploadIsRefused, UploadWorks};
 
 /// Shows that a client fits its log with what it appended itself: a block, a deletion of its cleanup, or a publication.
 pub fn own_entries_fit()
     ensures blocks { BlocksLeaveFits }
+    ensures goes_on { TaskGoesOnFits }
     ensures publication { PublicationFits }
     ensures create { CreateFits }
     ensures copy { CopyFits }

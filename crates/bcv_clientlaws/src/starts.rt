@@ -1,11 +1,16 @@
 //! Laws of asks that start a task. Each function does nothing: its clauses are the law.
-ghost use Rattle.bcv_clientlaws.specs.Starts.{CleanupIsNew, CopyHasLeft, CopyIsNew, CreateIsNew, FetchStarts, NewCleanupFits, NewCopyFits, NewCreateFits, NewUploadFits, PollStarts, QuietTaskFits, RefusesFetch, RefusesPoll, RefusesResolve, RefusesStart, ResolveStarts, StartsAsAsked, StartsWithoutPending, UploadHasLeft, UploadIsNew};
+ghost use Rattle.bcv_clientlaws.specs.Starts.{CleanupIsNew, CleanupStarts, CopyHasLeft, CopyIsNew, CopyStarts, CreateIsNew, CreateStarts, FetchStarts, NewCleanupFits, NewCopyFits, NewCreateFits, NewUploadFits, PollStarts, QuietTaskFits, RefusesFetch, RefusesPoll, RefusesResolve, RefusesStart, RefusesUpload, ResolveStarts, StartsAsAsked, StartsWithoutPending, UploadHasLeft, UploadIsNew, UploadStarts};
 
 /// Shows that an ask which starts a task, or is refused, is the machine's.
 pub fn starts_are_as_asked()
     ensures starts { StartsAsAsked }
     ensures refused { RefusesStart }
     ensures free { StartsWithoutPending }
+    ensures create { CreateStarts }
+    ensures copy { CopyStarts }
+    ensures upload { UploadStarts }
+    ensures no_upload { RefusesUpload }
+    ensures cleanup { CleanupStarts }
     ensures poll { PollStarts }
     ensures no_poll { RefusesPoll }
     ensures resolve { ResolveStarts }

@@ -1,5 +1,6 @@
-//! Laws of steps that end a publication. Each function does nothing: its clauses are the law.
+//! Laws of the steps of tasks, and of what ends a publication. Each function does nothing: its clauses are the law.
 ghost use Rattle.bcv_clientlaws.specs.FaultEnds.{ReadFailsVoided, ReadFindsFaultVoided, ReadFindsNoneVoided, RequestFailsVoided, RequestFindsGoneVoided};
+ghost use Rattle.bcv_clientlaws.specs.TaskSteps.{ClosedEndsTask, NoTaskSteps, StepIsOfTask, StepsSeeNoTasks};
 ghost use Rattle.bcv_clientlaws.specs.Resolves.{ResolveMeetsFault, ResolvedIsNotNoted, ResolvesAt, ResolvesVoid, VoidIsNotNoted};
 
 /// Shows that the step of a resolve is the machine's, whether it found the version, or none, or the store or the disk failed.
@@ -19,4 +20,12 @@ pub fn faults_end_as_the_machines()
     ensures none { ReadFindsNoneVoided }
     ensures request { RequestFailsVoided }
     ensures gone { RequestFindsGoneVoided }
+{}
+
+/// Shows that the step of a task's job, over the client without the task, is the machine's step of its number.
+pub fn steps_are_of_their_tasks()
+    ensures alone { StepsSeeNoTasks }
+    ensures step { StepIsOfTask }
+    ensures closed { ClosedEndsTask }
+    ensures none { NoTaskSteps }
 {}

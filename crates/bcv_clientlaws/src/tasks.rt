@@ -1,6 +1,6 @@
 //! Laws of a client's tasks, and of one part that is replaced. Each function does nothing: its clauses are the law.
 ghost use Rattle.bcv_clientlaws.specs.Different.{DifferAsBefore, DifferWithNew, DifferWithTxn, DifferWithoutTask, DifferWithoutTxn, OneWith, OneWithOther, OneWithout, OthersAreNone};
-ghost use Rattle.bcv_clientlaws.specs.OtherParts.{EntriesFit, FitsWithoutTask, FoundTaskFits, KeptFits, LatestFits, NamesSuffice, OthersLeaveFits, ShutFits, TaskFitsLast, TasksFit, TxnsFit};
+ghost use Rattle.bcv_clientlaws.specs.OtherParts.{EntriesFit, FitsWithoutTask, FoundTaskFits, KeptFits, KeptFitsQuietly, LatestFits, NamesSuffice, NotesKeepTaken, OthersLeaveFits, ShutFits, TaskFitsLast, TasksFit, TxnsFit};
 ghost use Rattle.bcv_clientlaws.specs.TaskLists.{FreeIsFree, JobIsBusy, TaskComes, TaskGoes, TaskGoesOn, TaskIsFound, TaskNumbersAre, TxnNumbersAre};
 
 /// Shows that a task which is taken out of the list, or put last, is the machine's.
@@ -44,5 +44,7 @@ pub fn other_parts_fit()
     ensures entries { EntriesFit }
     ensures latest { LatestFits }
     ensures kept { KeptFits }
+    ensures quietly { KeptFitsQuietly }
+    ensures taken { NotesKeepTaken }
     ensures shut { ShutFits }
 {}

@@ -1,4 +1,4 @@
-use Rattle.bcv_clientlaws.proofs.OwnEntries.{blocks_leave_fits, cleanup_deletes, cleanup_fits, cleanup_is_refused, cleanup_reads_on, copy_fits, copy_is_refused, copy_works, create_fits, publication_fits, upload_fits, upload_is_refused, upload_works}
+use Rattle.bcv_clientlaws.proofs.OwnEntries.{blocks_leave_fits, cleanup_deletes, cleanup_fits, cleanup_is_refused, cleanup_reads_on, copy_fits, copy_is_refused, copy_works, create_fits, publication_fits, task_goes_on_fits, upload_fits, upload_is_refused, upload_works}
 use Rattle.bcv_clientlaws.proofs.fits.own_entries_fit.Goals as goal
 
 pub returns-clause-blocks : goal.returns-clause-blocks
@@ -39,3 +39,6 @@ returns-clause-refused_upload c = upload_is_refused
 
 pub returns-clause-refused_cleanup : goal.returns-clause-refused_cleanup
 returns-clause-refused_cleanup c = cleanup_is_refused
+
+pub returns-clause-goes_on : goal.returns-clause-goes_on
+returns-clause-goes_on c = task_goes_on_fits

@@ -1,4 +1,5 @@
-use Rattle.bcv_clientlaws.proofs.OtherParts.{entries_fit, fits_without_task, found_task_fits, kept_fits, latest_fits, names_suffice, others_leave_fits, shut_fits, task_fits_last, tasks_fit, txns_fit}
+use Rattle.bcv_clientlaws.proofs.OtherParts.{entries_fit, fits_without_task, found_task_fits, kept_fits, kept_fits_quietly, latest_fits, names_suffice, others_leave_fits, shut_fits, task_fits_last, tasks_fit, txns_fit}
+use Rattle.bcv_clientlaws.proofs.Taken.{notes_keep_taken}
 use Rattle.bcv_clientlaws.proofs.tasks.other_parts_fit.Goals as goal
 
 pub returns-clause-others : goal.returns-clause-others
@@ -33,3 +34,9 @@ returns-clause-kept c = kept_fits
 
 pub returns-clause-shut : goal.returns-clause-shut
 returns-clause-shut c = shut_fits
+
+pub returns-clause-quietly : goal.returns-clause-quietly
+returns-clause-quietly c = kept_fits_quietly
+
+pub returns-clause-taken : goal.returns-clause-taken
+returns-clause-taken c = notes_keep_taken
