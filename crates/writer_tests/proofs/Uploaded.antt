@@ -1,71 +1,95 @@
--- An upload goes on after a step of work, and after a put that was refused.
-use Rattle.std.proofs.Common.{◌≡◌, ◌∙◌, ℕ, true, false, Option, Some, None, refl, sym, ap, subst, rules}
+-- What the tests know of an upload between two calls stays after a step of work, and after a put that was refused.
+use Rattle.std.proofs.Common.{◌≡◌, ◌∙◌, ℕ, Bool, true, false, cond, Option, Some, None, refl, sym, ap, subst}
 use Rattle.std.specs.Option.{MatchOption}
 use Rattle.bcv_base.specs.Image.{Writes}
 use Rattle.bcv_base.specs.declared.seen.Latest.{Latest}
 use Rattle.bcv_base.specs.declared.seen.Seen.{Seen}
+use Rattle.bcv_cache.specs.Cache.{found_first}
 use Rattle.bcv_cache.specs.Entry.{Blocks}
 use Rattle.bcv_pages.specs.Held.{Held}
 use Rattle.bcv_publish.specs.declared.work.PutEnd.{PutEnd}
 use Rattle.bcv_publish.specs.declared.work.Work.{Work}
 use Rattle.bcv_publish.specs.declared.work.Work.TheVariants as work
-use Rattle.bcv_upload.specs.State.{State, IsRunning, HoldsView, next_block}
+use Rattle.bcv_publish.specs.State as publish
+use Rattle.bcv_upload.specs.State.{State, IsRunning, HoldsView, base_id, next_block, with_block, with_fetched}
 use Rattle.bcv_upload.specs.UploadPut.{PutLeaves, behind_put}
-use Rattle.bcv_upload.specs.UploadWork.{FetchLeaves, BlockLeaves, WorkLeaves, asks_cache, cache_after, with_publish}
+use Rattle.bcv_upload.specs.UploadWork.{FetchLeaves, BlockLeaves, WorkLeaves, asks_cache, cache_after, cache_asked, with_publish}
 use Rattle.writer_tests.specs.Uploading.{IsUploading}
 
--- the upload is of the same view
-record IsSameView (s t : State) : Type 0 where
-  base : t.base ≡ s.base
-  size : t.size ≡ s.size
-  touched : t.touched ≡ s.touched
+-- the set holds the upload's view, in blocks of 1,024 bytes
+record IsView (h : Held) (s : State) : Type 0 where
+  view : HoldsView h s
+  block : s.base.block ≡ 1024
 
-itself : (s : State) → IsSameView s s
-itself s = record { base = refl; size = refl; touched = refl }
+same : (h : Held) (s t : State) → IsView h s → t ≡ s → IsView h t
+same h s t v is = subst (λ (x : State). IsView h x) (sym is) v
 
-same : (s t : State) → t ≡ s → IsSameView s t
-same s t is = subst (λ (x : State). IsSameView s x) (sym is) (itself s)
+changed : (h : Held) (s : State) (ids : _) (bytes : _) (p : publish.State) (done : Bool) → IsView h s
+    → IsView h (record s { ids = ids; fetched = bytes; publish = p; published = done })
+changed h s ids bytes p done v = record {
+  view = record { can = v.view.can; page_size = v.view.page_size; of_view = v.view.of_view };
+  block = v.block;
+}
 
-fetched : (s t : State) (result : Work) → FetchLeaves s result t → IsSameView s t
-fetched s t work.More (bytes, none, whole, is) = subst (λ (x : State). IsSameView s x) (sym is) (record { base = refl; size = refl; touched = refl })
-fetched s t work.Nothing leaves = absurd leaves
-fetched s t (work.Fault f) leaves = absurd leaves
-fetched s t work.NoContainer leaves = absurd leaves
-fetched s t (work.BadManifest at) leaves = absurd leaves
-fetched s t work.Gone is = same s t is
-fetched s t (work.BadBlock len) (other, is) = same s t is
-fetched s t work.NameTaken leaves = absurd leaves
-fetched s t work.StoreFault is = same s t is
-fetched s t work.NamesFault leaves = absurd leaves
-fetched s t work.ClockFault leaves = absurd leaves
-fetched s t work.NoMemory is = same s t is
+fetched : (h : Held) (s t : State) (result : Work) → IsView h s → FetchLeaves s result t → IsView h t
+fetched h s t work.More v (bytes, none, whole, is) = same h (with_fetched s bytes) t (changed h s s.ids (Some bytes) s.publish s.published v) is
+fetched h s t work.Nothing v leaves = absurd leaves
+fetched h s t (work.Fault f) v leaves = absurd leaves
+fetched h s t work.NoContainer v leaves = absurd leaves
+fetched h s t (work.BadManifest at) v leaves = absurd leaves
+fetched h s t work.Gone v is = same h s t v is
+fetched h s t (work.BadBlock len) v (other, is) = same h s t v is
+fetched h s t work.NameTaken v leaves = absurd leaves
+fetched h s t work.StoreFault v is = same h s t v is
+fetched h s t work.NamesFault v leaves = absurd leaves
+fetched h s t work.ClockFault v leaves = absurd leaves
+fetched h s t work.NoMemory v is = same h s t v is
 
-put_block : (s t : State) (result : Work) → BlockLeaves s result t → IsSameView s t
-put_block s t work.More (i, is) = subst (λ (x : State). IsSameView s x) (sym is) (record { base = refl; size = refl; touched = refl })
-put_block s t work.Nothing leaves = absurd leaves
-put_block s t (work.Fault f) leaves = absurd leaves
-put_block s t work.NoContainer leaves = absurd leaves
-put_block s t (work.BadManifest at) leaves = absurd leaves
-put_block s t work.Gone leaves = absurd leaves
-put_block s t (work.BadBlock len) leaves = absurd leaves
-put_block s t work.NameTaken is = same s t is
-put_block s t work.StoreFault is = same s t is
-put_block s t work.NamesFault is = same s t is
-put_block s t work.ClockFault leaves = absurd leaves
-put_block s t work.NoMemory is = same s t is
+put_block : (h : Held) (s t : State) (result : Work) → IsView h s → BlockLeaves s result t → IsView h t
+put_block h s t work.More v (i, is) = same h (with_block s i) t (changed h s (with_block s i).ids None s.publish s.published v) is
+put_block h s t work.Nothing v leaves = absurd leaves
+put_block h s t (work.Fault f) v leaves = absurd leaves
+put_block h s t work.NoContainer v leaves = absurd leaves
+put_block h s t (work.BadManifest at) v leaves = absurd leaves
+put_block h s t work.Gone v leaves = absurd leaves
+put_block h s t (work.BadBlock len) v leaves = absurd leaves
+put_block h s t work.NameTaken v is = same h s t v is
+put_block h s t work.StoreFault v is = same h s t v is
+put_block h s t work.NamesFault v is = same h s t v is
+put_block h s t work.ClockFault v leaves = absurd leaves
+put_block h s t work.NoMemory v is = same h s t v is
 
-worked : (s t : State) (latest : Option Latest) (fetch : _) (seen : Seen) (result : Work) → WorkLeaves latest fetch seen s result t → IsSameView s t
-worked s t None fetch seen result (p, gets, is) = subst (λ (x : State). IsSameView s x) (sym is) (record { base = refl; size = refl; touched = refl })
-worked s t (Some l) true seen result leaves = fetched s t result leaves
-worked s t (Some l) false seen result leaves = put_block s t result leaves
+stepped : (h : Held) (s t : State) (latest : Option Latest) (fetch : Bool) (seen : Seen) (result : Work) → IsView h s
+    → WorkLeaves latest fetch seen s result t → IsView h t
+stepped h s t None fetch seen result v (p, gets, is) = same h (with_publish s p) t (changed h s s.ids s.fetched p s.published v) is
+stepped h s t (Some l) true seen result v leaves = fetched h s t result v leaves
+stepped h s t (Some l) false seen result v leaves = put_block h s t result v leaves
 
--- a set holds the view of an upload of the same view
-held : (h : Held) (s t : State) → IsSameView s t → HoldsView h s → HoldsView h t
-held h s t v holds = by t.base t.size t.touched v.base v.size v.touched
-  where
-    by : (base : _) (size : ℕ) (touched : _) → base ≡ s.base → size ≡ s.size → touched ≡ s.touched → HoldsView h (record t { base = base; size = size; touched = touched })
-    by base size touched b n k = ?
+cache_stays : (latest : Option Latest) (view : _) (s : State) (c : Blocks) → (cache_after latest view s c).block ≡ c.block
+cache_stays None view s c = refl
+cache_stays (Some l) view s c =
+    elim (asks_cache s.base view (next_block s) s.fetched) as (λ b. (cond b (record c { entries = found_first (base_id s.base (next_block s)) c.entries }) c).block ≡ c.block) [
+      | true ↦ refl
+      | false ↦ refl
+    ]
 
-cache_block : (latest : Option Latest) (view : _) (s : State) (c : Blocks) → (cache_after latest view s c).block ≡ c.block
-cache_block None view s c = refl
-cache_block (Some l) view s c = ?
+-- after a step
+pub worked : (h : Held) (c d : Blocks) (s t : State) (latest : Option Latest) (view : _) (fetch : Bool) (seen : Seen)
+    (result : Work) → IsUploading h c s → WorkLeaves latest fetch seen s result t → d ≡ cache_after latest view s c
+    → IsRunning t → IsUploading h d t
+worked h c d s t latest view fetch seen result u leaves cache running =
+    let v : IsView h t = stepped h s t latest fetch seen result (record { view = u.view; block = u.block }) leaves in
+    record {
+      running = running;
+      view = v.view;
+      block = v.block;
+      cache = subst (λ (x : Blocks). x.block ≡ 1024) (sym cache) (cache_stays latest view s c ∙ u.cache);
+    }
+
+-- after a put
+pub refused : (h : Held) (c : Blocks) (s t : State) (latest : Option Latest) (moment : ℕ) (end : PutEnd) → IsUploading h c s
+    → MatchOption latest ⊥ (λ read. PutLeaves moment s read end t) → IsRunning t → IsUploading h c t
+refused h c s t None moment end u leaves running = absurd leaves
+refused h c s t (Some l) moment end u (p, puts, is) running =
+    let v : IsView h t = same h (behind_put s p end) t (changed h s s.ids s.fetched p (behind_put s p end).published (record { view = u.view; block = u.block })) is in
+    record { running = running; view = v.view; block = v.block; cache = u.cache }
