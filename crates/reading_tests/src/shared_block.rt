@@ -116,7 +116,7 @@ fn shows(
 // Ends a transaction beside another one.
 fn end(txn: Txn, other: &Txn, cache: &mut BlockCache, shared: Id16)
     requires { AreSharing shared txn other.now cache.old }
-    ensures { HasPins other.now.held cache.new.entries }
+    ensures pins { HasPins other.now.held cache.new.entries }
     ensures block { cache.new.block ≡ 1024 }
 {
     let _ = other.size();

@@ -25,7 +25,7 @@ enum Shown {
 }
 
 // Looks at a page of a transaction that holds no block.
-fn shown(txn: &Txn, pages: &PageSet, cache: &BlockCache, page: u32) -> Shown
+fn look_at(txn: &Txn, pages: &PageSet, cache: &BlockCache, page: u32) -> Shown
     requires none { txn.now.held ≡ [] }
     requires view { CanView pages.now txn.now.base.from txn.now.base.to }
     requires block { cache.now.block ≡ txn.now.base.block }
@@ -120,7 +120,7 @@ fn check_view(
 {
     let txn = Txn::begin(alloc, base, pages);
     for page in 0..8u32 {
-        assert_eq!(rt; shown(&txn, pages, cache, page), want[page as usize], "{page}");
+        assert_eq!(rt; look_at(&txn, pages, cache, page), want[page as usize], "{page}");
     }
     assert_eq!(rt; txn.place(pages, cache, 3), third);
     txn.end(cache);

@@ -2,7 +2,7 @@
 ghost use Rattle.bcv_cleanup.specs.State.{IsRunning};
 ghost use Rattle.bcv_keeprule.specs.Retention.{IsKeepRule};
 
-use crate::container::{Container, SEEN, container, drawn, id_of, publish_copy};
+use crate::container::{Container, SEEN, drawn, id_of, new_container, publish_copy};
 use crate::uploader::{base_of, begin, begin_one, commit_of, publish, step};
 use bcv_base::SetClock;
 use bcv_cache::BlockCache;
@@ -57,7 +57,7 @@ fn clean(
 #[test]
 fn a_copied_block_is_kept(rt: HostRuntime) -> Result<(), Fail> {
     let alloc = rt.alloc();
-    let mut container = container(alloc)?;
+    let mut container = new_container(alloc)?;
     assert_eq!(rt; publish_copy(alloc, &mut container, 1)?, 3);
     let mut client = begin_one(alloc, &mut container, 1, 4, 5, 0xbb)?;
     assert_eq!(rt; publish(alloc, &mut container, &mut client, 0)?, 4);
@@ -70,7 +70,7 @@ fn a_copied_block_is_kept(rt: HostRuntime) -> Result<(), Fail> {
 #[test]
 fn a_replaced_block_is_kept_for_the_retention(rt: HostRuntime) -> Result<(), Fail> {
     let alloc = rt.alloc();
-    let mut container = container(alloc)?;
+    let mut container = new_container(alloc)?;
     let mut client = begin_one(alloc, &mut container, 1, 4, 5, 0xbb)?;
     assert_eq!(rt; publish(alloc, &mut container, &mut client, 7)?, 3);
     let early = clean(alloc, &mut container, 106)?;
@@ -85,7 +85,7 @@ fn a_replaced_block_is_kept_for_the_retention(rt: HostRuntime) -> Result<(), Fai
 #[test]
 fn an_old_block_is_gone(rt: HostRuntime) -> Result<(), Fail> {
     let alloc = rt.alloc();
-    let mut container = container(alloc)?;
+    let mut container = new_container(alloc)?;
     let base = base_of(4, 1, vec![in alloc; id_of(5)]?).ok_or("a base")?;
     let pages = commit_of(alloc, 2, 2, 0xcc)?;
     let cache = BlockCache::new(alloc, 4, 1_024)?;

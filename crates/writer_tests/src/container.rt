@@ -20,6 +20,7 @@ pub(crate) const SEEN: Seen = Seen {
 };
 
 /// A container, and the source of names that its writers share.
+#[derive(Drop)]
 pub(crate) struct Container {
     pub(crate) store: MemStore,
     pub(crate) names: CountNames,
@@ -45,8 +46,9 @@ fn first_page(alloc: Global) -> Result<Vec<Seq<u8>>, AllocError>
     ensures pages { IfOk result (λ v. AllByRecursion (λ (p : Page). length p ≡ 512) v.items) }
     ensures one { IfOk result (λ v. length v.items ≡ 1) }
 {
-    let page = Seq::of(vec![in alloc; 0xaa; 512]?);
-    Vec::from_array(alloc, [page])
+    let mut pages = Vec::with_capacity(alloc, 1)?;
+    pages.push(Seq::of(vec![in alloc; 0xaa; 512]?))?;
+    Ok(pages)
 }
 
 // Makes the requests of a task up to its end.
@@ -120,7 +122,7 @@ pub(crate) fn publish_copy(alloc: Global, container: &mut Container, writer: u8)
 
 /// A container of two writers, 1 and 2. It keeps dead blocks for 100 seconds. Its second version has the database `a` of
 /// one page of `aa` bytes, in block 5 under the tag 4.
-pub(crate) fn container(alloc: Global) -> Result<Container, Fail> {
+pub(crate) fn new_container(alloc: Global) -> Result<Container, Fail> {
     let mut container = Container {
         store: MemStore::new(alloc),
         names: CountNames::new(),

@@ -18,6 +18,7 @@ use std::alloc::Global;
 use std::test::Fail;
 
 /// An upload, with the commit and the cache that it is made from.
+#[derive(Drop)]
 pub(crate) struct Uploader {
     pub(crate) pages: PageSet,
     pub(crate) cache: BlockCache,

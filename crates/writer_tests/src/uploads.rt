@@ -2,7 +2,7 @@
 ghost use Rattle.std.specs.Prelude.{◌≡◌, true};
 ghost use Rattle.writer_tests.specs.Uploading.{IsUploading};
 
-use crate::container::{Container, container, has_pages, id_of, publish_empty};
+use crate::container::{Container, has_pages, id_of, new_container, publish_empty};
 use crate::uploader::{Uploader, base_of, begin, begin_one, commit_of, lefts, publish, put, step};
 use bcv_base::{Id16, Outcome};
 use bcv_cache::BlockCache;
@@ -27,7 +27,7 @@ fn resolved(alloc: Global, container: &mut Container) -> Resolved {
 #[test]
 fn a_later_upload_is_a_conflict(rt: HostRuntime) -> Result<(), Fail> {
     let alloc = rt.alloc();
-    let mut container = container(alloc)?;
+    let mut container = new_container(alloc)?;
     let mut first = begin_one(alloc, &mut container, 1, 4, 5, 0xbb)?;
     assert_eq!(rt; publish(alloc, &mut container, &mut first, 0)?, 3);
     let mut second = begin_one(alloc, &mut container, 2, 4, 5, 0xcc)?;
@@ -41,7 +41,7 @@ fn a_later_upload_is_a_conflict(rt: HostRuntime) -> Result<(), Fail> {
 #[test]
 fn a_conflict_is_found_after_a_refused_put(rt: HostRuntime) -> Result<(), Fail> {
     let alloc = rt.alloc();
-    let mut container = container(alloc)?;
+    let mut container = new_container(alloc)?;
     let mut first = begin_one(alloc, &mut container, 1, 4, 5, 0xbb)?;
     let mut second = begin_one(alloc, &mut container, 2, 4, 5, 0xcc)?;
     lefts(alloc, &mut container, &mut second)?;
@@ -75,7 +75,7 @@ fn outrun(
 #[test]
 fn a_refused_upload_is_published_later(rt: HostRuntime) -> Result<(), Fail> {
     let alloc = rt.alloc();
-    let mut container = container(alloc)?;
+    let mut container = new_container(alloc)?;
     let mut client = begin_one(alloc, &mut container, 1, 4, 5, 0xbb)?;
     assert_eq!(rt; lefts(alloc, &mut container, &mut client)?.as_slice(), [3, 1].as_slice());
     let again = outrun(alloc, &mut container, &mut client, b"b")?;
@@ -92,7 +92,7 @@ fn a_refused_upload_is_published_later(rt: HostRuntime) -> Result<(), Fail> {
 #[test]
 fn eight_refused_puts_are_contention(rt: HostRuntime) -> Result<(), Fail> {
     let alloc = rt.alloc();
-    let mut container = container(alloc)?;
+    let mut container = new_container(alloc)?;
     let mut client = begin_one(alloc, &mut container, 1, 4, 5, 0xbb)?;
     lefts(alloc, &mut container, &mut client)?;
     for number in 0..7u8 {
@@ -112,7 +112,7 @@ fn eight_refused_puts_are_contention(rt: HostRuntime) -> Result<(), Fail> {
 #[test]
 fn a_lost_publication_is_found(rt: HostRuntime) -> Result<(), Fail> {
     let alloc = rt.alloc();
-    let mut container = container(alloc)?;
+    let mut container = new_container(alloc)?;
     let mut client = begin_one(alloc, &mut container, 1, 4, 5, 0xbb)?;
     lefts(alloc, &mut container, &mut client)?;
     container.store.plan(Outcome::Lost);
@@ -130,7 +130,7 @@ fn a_lost_publication_is_found(rt: HostRuntime) -> Result<(), Fail> {
 #[test]
 fn a_failed_publication_is_void(rt: HostRuntime) -> Result<(), Fail> {
     let alloc = rt.alloc();
-    let mut container = container(alloc)?;
+    let mut container = new_container(alloc)?;
     let mut client = begin_one(alloc, &mut container, 1, 4, 5, 0xbb)?;
     lefts(alloc, &mut container, &mut client)?;
     container.store.plan(Outcome::Fail);
@@ -147,7 +147,7 @@ fn a_failed_publication_is_void(rt: HostRuntime) -> Result<(), Fail> {
 #[test]
 fn a_database_grows_and_is_cut(rt: HostRuntime) -> Result<(), Fail> {
     let alloc = rt.alloc();
-    let mut container = container(alloc)?;
+    let mut container = new_container(alloc)?;
     let base = base_of(4, 1, vec![in alloc; id_of(5)]?).ok_or("a base")?;
     let pages = commit_of(alloc, 4, 4, 0xdd)?;
     let cache = BlockCache::new(alloc, 4, 1_024)?;
