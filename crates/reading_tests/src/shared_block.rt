@@ -126,6 +126,7 @@ fn end(txn: Txn, other: &Txn, cache: &mut BlockCache, shared: Id16)
 
 // The second transaction's own pins keep the block when the first one has freed it, and a block is freed by any page of
 // it, once. The first one's second page is that of its commit.
+#[tactic(auto, using(crate::proofs::Shared::turned, crate::proofs::Shared::own_pins, crate::proofs::Shared::has_more))]
 fn share(
     rt: &impl Abort,
     alloc: Global,

@@ -1,5 +1,5 @@
 //! Uploads of two writers over one container: which of them is refused, and what becomes of those whose answer is lost.
-ghost use Rattle.std.specs.Prelude.{◌≡◌, true};
+ghost use Rattle.std.specs.Prelude.{◌≡◌, true, IfOk};
 ghost use Rattle.writer_tests.specs.Uploading.{IsUploading};
 
 use crate::container::{Container, has_pages, id_of, new_container, publish_empty};
