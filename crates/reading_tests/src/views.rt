@@ -1,5 +1,5 @@
 //! Transactions over views of one set of commits that grow and cut a database.
-ghost use Rattle.std.specs.Prelude.{◌≡◌, ◌+◌, ◌<◌, ◌≤◌, [], IfOk, OnOk};
+ghost use Rattle.std.specs.Prelude.{◌≡◌, ◌+◌, ◌<◌, [], IfOk, IfSome, OnOk};
 ghost use Rattle.bcv_base.specs.ManifestRules.{MeetsEntryRules};
 ghost use Rattle.bcv_pages.specs.Held.{CanView, last_of};
 

@@ -1,4 +1,4 @@
--- What the tests know of an upload between two calls stays after a step of work, and after a put that was refused.
+-- What the tests know of an upload between two calls stays after a step of work.
 use Rattle.std.proofs.Common.{◌≡◌, ◌∙◌, ℕ, Bool, true, false, cond, Option, Some, None, refl, sym, ap, subst}
 use Rattle.std.specs.Option.{MatchOption}
 use Rattle.bcv_base.specs.Image.{Writes}
@@ -86,10 +86,3 @@ worked h c d s t latest view fetch seen result u leaves cache running =
       cache = subst (λ (x : Blocks). x.block ≡ 1024) (sym cache) (cache_stays latest view s c ∙ u.cache);
     }
 
--- after a put
-pub refused : (h : Held) (c : Blocks) (s t : State) (latest : Option Latest) (moment : ℕ) (end : PutEnd) → IsUploading h c s
-    → MatchOption latest ⊥ (λ read. PutLeaves moment s read end t) → IsRunning t → IsUploading h c t
-refused h c s t None moment end u leaves running = absurd leaves
-refused h c s t (Some l) moment end u (p, puts, is) running =
-    let v : IsView h t = same h (behind_put s p end) t (changed h s s.ids s.fetched p (behind_put s p end).published (record { view = u.view; block = u.block })) is in
-    record { running = running; view = v.view; block = v.block; cache = u.cache }
