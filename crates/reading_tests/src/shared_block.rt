@@ -21,7 +21,12 @@ const SHARED: Id16 = Id16([5; 16]);
 const OTHER: Id16 = Id16([6; 16]);
 
 // Puts a block of two pages of these bytes.
-fn put_block(alloc: Global, store: &mut MemStore, id: Id16, pages: [u8; 2]) -> Result<bool, AllocError> {
+fn put_block(
+    alloc: Global,
+    store: &mut MemStore,
+    id: Id16,
+    pages: [u8; 2],
+) -> Result<bool, AllocError> {
     let mut bytes = vec![in alloc; pages[0]; 512]?;
     bytes.resize(1_024, pages[1])?;
     let put = store.put(alloc, &ObjName::Block(id), Cond::Absent, &bytes);
@@ -149,10 +154,16 @@ fn share(
     assert!(rt; shows(&one, &other, pages, cache, shared, 1, 1));
     assert!(rt; shows(&one, &other, pages, cache, shared, 2, 9));
     assert!(rt; shows(&other, &one, pages, cache, shared, 2, 2));
-    assert_eq!(rt; fetch_other(alloc, store, cache, &one, &other, shared), Fetched::CacheFull);
+    assert_eq!(rt;
+        fetch_other(alloc, store, cache, &one, &other, shared),
+        Fetched::CacheFull
+    );
     assert!(rt; free(&mut one, &other, cache, shared, 2));
     assert!(rt; !free(&mut one, &other, cache, shared, 1));
-    assert_eq!(rt; fetch_other(alloc, store, cache, &one, &other, shared), Fetched::CacheFull);
+    assert_eq!(rt;
+        fetch_other(alloc, store, cache, &one, &other, shared),
+        Fetched::CacheFull
+    );
     assert!(rt; shows(&other, &one, pages, cache, shared, 1, 1));
     assert!(rt; free(&mut other, &one, cache, shared, 1));
     let came = fetch_other(alloc, store, cache, &one, &other, shared);
@@ -247,6 +258,8 @@ fn two_databases_share_a_block(rt: HostRuntime) -> Result<(), Fail> {
     let copy = base_of(alloc, b"b", SHARED, 0).ok_or("a base")?;
     let one = begin(&rt, alloc, base, &pages, &mut cache, SHARED, slot);
     let other = begin(&rt, alloc, copy, &pages, &mut cache, SHARED, slot);
-    share(&rt, alloc, &mut store, &pages, one, other, &mut cache, slot, SHARED);
+    share(
+        &rt, alloc, &mut store, &pages, one, other, &mut cache, slot, SHARED,
+    );
     Ok(())
 }

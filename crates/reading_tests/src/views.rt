@@ -120,7 +120,11 @@ fn check_view(
 {
     let txn = Txn::begin(alloc, base, pages);
     for page in 0..8u32 {
-        assert_eq!(rt; look_at(&txn, pages, cache, page), want[page as usize], "{page}");
+        assert_eq!(rt;
+            look_at(&txn, pages, cache, page),
+            want[page as usize],
+            "{page}"
+        );
     }
     assert_eq!(rt; txn.place(pages, cache, 3), third);
     txn.end(cache);
@@ -135,16 +139,54 @@ fn pages_by_growth_and_cuts(rt: HostRuntime) -> Result<(), Fail> {
     let pages = commits_of(alloc)?;
     let mut cache = BlockCache::new(alloc, 1, 1_024)?;
     let base = base_of(alloc, 0).ok_or("a base")?;
-    let want = [BadPage, NotHeld, NotHeld, NotHeld, BadPage, BadPage, BadPage, BadPage];
-    check_view(&rt, alloc, base, &pages, &mut cache, want, Place::Absent(SECOND));
+    let want = [
+        BadPage, NotHeld, NotHeld, NotHeld, BadPage, BadPage, BadPage, BadPage,
+    ];
+    check_view(
+        &rt,
+        alloc,
+        base,
+        &pages,
+        &mut cache,
+        want,
+        Place::Absent(SECOND),
+    );
     let base = base_of(alloc, 1).ok_or("a base")?;
-    let want = [BadPage, NotHeld, NotHeld, NotHeld, Zeros, Zeros, Page(9), BadPage];
-    check_view(&rt, alloc, base, &pages, &mut cache, want, Place::Absent(SECOND));
+    let want = [
+        BadPage,
+        NotHeld,
+        NotHeld,
+        NotHeld,
+        Zeros,
+        Zeros,
+        Page(9),
+        BadPage,
+    ];
+    check_view(
+        &rt,
+        alloc,
+        base,
+        &pages,
+        &mut cache,
+        want,
+        Place::Absent(SECOND),
+    );
     let base = base_of(alloc, 2).ok_or("a base")?;
-    let want = [BadPage, NotHeld, NotHeld, BadPage, BadPage, BadPage, BadPage, BadPage];
+    let want = [
+        BadPage, NotHeld, NotHeld, BadPage, BadPage, BadPage, BadPage, BadPage,
+    ];
     check_view(&rt, alloc, base, &pages, &mut cache, want, Place::BadPage);
     let base = base_of(alloc, 3).ok_or("a base")?;
-    let want = [BadPage, NotHeld, NotHeld, Zeros, Page(8), BadPage, BadPage, BadPage];
+    let want = [
+        BadPage,
+        NotHeld,
+        NotHeld,
+        Zeros,
+        Page(8),
+        BadPage,
+        BadPage,
+        BadPage,
+    ];
     check_view(&rt, alloc, base, &pages, &mut cache, want, Place::Zeros);
     Ok(())
 }

@@ -168,7 +168,12 @@ fn more_entries_than_one_cleanup_takes(rt: HostRuntime) -> Result<(), Fail> {
     let end = run(alloc, &mut first, &mut store, &mut clock, &rule);
     assert_eq!(rt; end, Ok(PutEnd::Published(2)));
     assert_eq!(rt; first.found(), (64, true));
-    let left = first.latest().ok_or("the manifest is kept")?.manifest.dead.items();
+    let left = first
+        .latest()
+        .ok_or("the manifest is kept")?
+        .manifest
+        .dead
+        .items();
     assert_eq!(rt; left.len(), 6);
     assert!(rt; left.first().is_some_and(|dead| dead.id.same_as(&id(74))));
     let mut second = Cleanup::new(alloc, id(2), id(5));

@@ -85,4 +85,3 @@ worked h c d s t latest view fetch seen result u leaves cache running =
       block = v.block;
       cache = subst (λ (x : Blocks). x.block ≡ 1024) (sym cache) (cache_stays latest view s c ∙ u.cache);
     }
-

@@ -112,7 +112,11 @@ pub(crate) fn publish_empty(
 }
 
 /// Publishes a copy of the database `a` under the name `b`, as this writer, and answers the version's number.
-pub(crate) fn publish_copy(alloc: Global, container: &mut Container, writer: u8) -> Result<u64, Fail> {
+pub(crate) fn publish_copy(
+    alloc: Global,
+    container: &mut Container,
+    writer: u8,
+) -> Result<u64, Fail> {
     let from = DbName::read(b"a").ok_or("a name")?;
     let to = DbName::read(b"b").ok_or("a name")?;
     let id = drawn(container)?;

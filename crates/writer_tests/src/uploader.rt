@@ -52,7 +52,12 @@ pub(crate) fn base_of(tag: u8, pages: u32, blocks: Vec<Id16>) -> Option<TxnBase>
 }
 
 /// One commit of so many pages, which writes one page full of a byte, or none where the page is 0.
-pub(crate) fn commit_of(alloc: Global, size: u32, page: u32, byte: u8) -> Result<PageSet, WriteFault>
+pub(crate) fn commit_of(
+    alloc: Global,
+    size: u32,
+    page: u32,
+    byte: u8,
+) -> Result<PageSet, WriteFault>
     ensures page_size { IfOk result (λ s. s.page_size ≡ 512) }
     ensures view { IfOk result (λ s. CanView s 0 1) }
     ensures size { IfOk result (λ s. (n : ℕ) → view_size n (view_of s 0 1) ≡ size) }
@@ -123,14 +128,16 @@ pub(crate) fn step(alloc: Global, container: &mut Container, client: &mut Upload
     if client.upload.ready() {
         return None;
     }
-    Some(client.upload.work(
-        alloc,
-        &mut container.store,
-        &mut container.names,
-        &SEEN,
-        &client.pages,
-        &mut client.cache,
-    ))
+    Some(
+        client.upload.work(
+            alloc,
+            &mut container.store,
+            &mut container.names,
+            &SEEN,
+            &client.pages,
+            &mut client.cache,
+        ),
+    )
 }
 
 /// Puts the manifest at a moment, or answers `None` where the upload is not ready.

@@ -77,13 +77,19 @@ fn a_refused_upload_is_published_later(rt: HostRuntime) -> Result<(), Fail> {
     let alloc = rt.alloc();
     let mut container = new_container(alloc)?;
     let mut client = begin_one(alloc, &mut container, 1, 4, 5, 0xbb)?;
-    assert_eq!(rt; lefts(alloc, &mut container, &mut client)?.as_slice(), [3, 1].as_slice());
+    assert_eq!(rt;
+        lefts(alloc, &mut container, &mut client)?.as_slice(),
+        [3, 1].as_slice()
+    );
     let again = outrun(alloc, &mut container, &mut client, b"b")?;
     if !again {
         return Err(Fail::from("the put is refused"));
     }
     assert_eq!(rt; client.upload.left(), 1);
-    assert_eq!(rt; put(alloc, &mut container, &mut client, 0), Some(PutEnd::Published(4)));
+    assert_eq!(rt;
+        put(alloc, &mut container, &mut client, 0),
+        Some(PutEnd::Published(4))
+    );
     assert_eq!(rt; container.store.log_len(), 6);
     Ok(())
 }
@@ -116,7 +122,10 @@ fn a_lost_publication_is_found(rt: HostRuntime) -> Result<(), Fail> {
     let mut client = begin_one(alloc, &mut container, 1, 4, 5, 0xbb)?;
     lefts(alloc, &mut container, &mut client)?;
     container.store.plan(Outcome::Lost);
-    assert_eq!(rt; put(alloc, &mut container, &mut client, 0), Some(PutEnd::Unknown));
+    assert_eq!(rt;
+        put(alloc, &mut container, &mut client, 0),
+        Some(PutEnd::Unknown)
+    );
     let mut second = begin_one(alloc, &mut container, 2, 6, 7, 0xcc)?;
     assert_eq!(rt; publish(alloc, &mut container, &mut second, 0)?, 4);
     let mut third = begin_one(alloc, &mut container, 2, 8, 9, 0xdd)?;
@@ -134,7 +143,10 @@ fn a_failed_publication_is_void(rt: HostRuntime) -> Result<(), Fail> {
     let mut client = begin_one(alloc, &mut container, 1, 4, 5, 0xbb)?;
     lefts(alloc, &mut container, &mut client)?;
     container.store.plan(Outcome::Fail);
-    assert_eq!(rt; put(alloc, &mut container, &mut client, 0), Some(PutEnd::Unknown));
+    assert_eq!(rt;
+        put(alloc, &mut container, &mut client, 0),
+        Some(PutEnd::Unknown)
+    );
     assert_eq!(rt; resolved(alloc, &mut container), Resolved::Voided);
     let mut anew = begin_one(alloc, &mut container, 1, 4, 5, 0xbb)?;
     assert_eq!(rt; publish(alloc, &mut container, &mut anew, 0)?, 3);
@@ -153,16 +165,28 @@ fn a_database_grows_and_is_cut(rt: HostRuntime) -> Result<(), Fail> {
     let cache = BlockCache::new(alloc, 4, 1_024)?;
     let mut grown = begin(alloc, &mut container, &base, 1, pages, 4, cache)?;
     assert_eq!(rt; grown.upload.left(), 6);
-    assert_eq!(rt; lefts(alloc, &mut container, &mut grown)?.as_slice(), [5, 4, 3, 1].as_slice());
-    assert_eq!(rt; put(alloc, &mut container, &mut grown, 0), Some(PutEnd::Published(3)));
+    assert_eq!(rt;
+        lefts(alloc, &mut container, &mut grown)?.as_slice(),
+        [5, 4, 3, 1].as_slice()
+    );
+    assert_eq!(rt;
+        put(alloc, &mut container, &mut grown, 0),
+        Some(PutEnd::Published(3))
+    );
     assert!(rt; has_pages(alloc, &mut container, 7, [0xaa, 0])?);
     assert!(rt; has_pages(alloc, &mut container, 8, [0, 0xdd])?);
     let base = base_of(6, 4, Vec::from_array(alloc, [id_of(7), id_of(8)])?).ok_or("a base")?;
     let pages = commit_of(alloc, 1, 0, 0)?;
     let cache = BlockCache::new(alloc, 4, 1_024)?;
     let mut cut = begin(alloc, &mut container, &base, 1, pages, 1, cache)?;
-    assert_eq!(rt; lefts(alloc, &mut container, &mut cut)?.as_slice(), [1].as_slice());
+    assert_eq!(rt;
+        lefts(alloc, &mut container, &mut cut)?.as_slice(),
+        [1].as_slice()
+    );
     assert_eq!(rt; cut.upload.entry().blocks.items(), [id_of(7)].as_slice());
-    assert_eq!(rt; put(alloc, &mut container, &mut cut, 0), Some(PutEnd::Published(4)));
+    assert_eq!(rt;
+        put(alloc, &mut container, &mut cut, 0),
+        Some(PutEnd::Published(4))
+    );
     Ok(())
 }

@@ -5,7 +5,6 @@ use Rattle.bcv_base.specs.Ids.{IsId}
 use Rattle.reading_tests.proofs.Powers.{is_page}
 use Rattle.reading_tests.proofs.shared_block.base_of.Goals as goal
 
-
 pub returns-clause-rules : goal.returns-clause-rules
 returns-clause-rules c =
     let blocks : c.of.result ≡ c.args.shared ∷ [] = c.of.ensures ∙ c.in-Ok.ensures.items in
