@@ -20,8 +20,8 @@ fn id(number: u8) -> Id16 {
     Id16([number; 16])
 }
 
-// A first manifest that keeps dead blocks for 100 seconds, with dead blocks of these stamps, whose ids ascend from 10.
-fn manifest_text(alloc: Global, stamps: &[u64]) -> Result<Vec<u8>, AllocError> {
+// A first manifest that keeps dead blocks for 100 seconds, with three dead blocks of these stamps.
+fn manifest_text(alloc: Global, stamps: [u64; 3]) -> Result<Vec<u8>, AllocError> {
     let mut text = Vec::from_slice(alloc, b"BCVMAN01")?;
     text.extend_from_slice(&1u64.to_be_bytes())?;
     text.extend_from_slice(&0u64.to_be_bytes())?;
@@ -33,7 +33,7 @@ fn manifest_text(alloc: Global, stamps: &[u64]) -> Result<Vec<u8>, AllocError> {
     text.extend_from_slice(&id(3).0)?;
     text.extend_from_slice(&1u64.to_be_bytes())?;
     text.extend_from_slice(&0u32.to_be_bytes())?;
-    text.extend_from_slice(&(stamps.len() as u32).to_be_bytes())?;
+    text.extend_from_slice(&3u32.to_be_bytes())?;
     let mut number = 10;
     for stamp in stamps {
         text.extend_from_slice(&id(number).0)?;
@@ -44,7 +44,7 @@ fn manifest_text(alloc: Global, stamps: &[u64]) -> Result<Vec<u8>, AllocError> {
 }
 
 // A store with that manifest.
-fn container(alloc: Global, stamps: &[u64]) -> Result<MemStore, Fail> {
+fn container(alloc: Global, stamps: [u64; 3]) -> Result<MemStore, Fail> {
     let text = manifest_text(alloc, stamps)?;
     let mut store = MemStore::new(alloc);
     let Put::Stored(_) = store.put(alloc, &ObjName::Manifest, Cond::Absent, &text) else {
@@ -88,7 +88,7 @@ fn ends<F: Fn(u64, u64, u64) -> bool>(
 ) -> Result<(Result<PutEnd, Work>, (u32, bool), usize), Fail>
     requires { IsKeepRule (F.pre rule.now.rule) (F.post rule.now.rule) }
 {
-    let mut store = container(alloc, &[0, 5, 6])?;
+    let mut store = container(alloc, [0, 5, 6])?;
     let mut clock = SetClock::new(moment);
     let mut cleanup = Cleanup::new(alloc, id(1), id(4));
     let end = run(alloc, &mut cleanup, &mut store, &mut clock, rule);
@@ -146,7 +146,7 @@ fn interleaved<F: Fn(u64, u64, u64) -> bool>(
 #[test]
 fn two_at_once(rt: HostRuntime) -> Result<(), Fail> {
     let alloc = rt.alloc();
-    let mut store = container(alloc, &[0, 5, 6])?;
+    let mut store = container(alloc, [0, 5, 6])?;
     let rule = KeepRule::new(retention_passed);
     let mut first = Cleanup::new(alloc, id(1), id(4));
     let mut second = Cleanup::new(alloc, id(2), id(5));
@@ -154,32 +154,5 @@ fn two_at_once(rt: HostRuntime) -> Result<(), Fail> {
     assert_eq!(rt; ends, Some((PutEnd::Published(2), PutEnd::Published(3))));
     assert_eq!(rt; first.found(), (2, false));
     assert_eq!(rt; store.log_len(), 7);
-    Ok(())
-}
-
-// Of 70 entries the first 64 are taken, by their ids, and there is more to do; the next cleanup takes the others.
-#[test]
-fn more_entries_than_one_cleanup_takes(rt: HostRuntime) -> Result<(), Fail> {
-    let alloc = rt.alloc();
-    let mut store = container(alloc, &[7; 70])?;
-    let rule = KeepRule::new(retention_passed);
-    let mut clock = SetClock::new(107);
-    let mut first = Cleanup::new(alloc, id(1), id(4));
-    let end = run(alloc, &mut first, &mut store, &mut clock, &rule);
-    assert_eq!(rt; end, Ok(PutEnd::Published(2)));
-    assert_eq!(rt; first.found(), (64, true));
-    let left = first
-        .latest()
-        .ok_or("the manifest is kept")?
-        .manifest
-        .dead
-        .items();
-    assert_eq!(rt; left.len(), 6);
-    assert!(rt; left.first().is_some_and(|dead| dead.id.same_as(&id(74))));
-    let mut second = Cleanup::new(alloc, id(2), id(5));
-    let end = run(alloc, &mut second, &mut store, &mut clock, &rule);
-    assert_eq!(rt; end, Ok(PutEnd::Published(3)));
-    assert_eq!(rt; second.found(), (6, false));
-    assert_eq!(rt; store.log_len(), 73);
     Ok(())
 }
