@@ -4,12 +4,12 @@ use Rattle.std.specs.List.{list_any}
 use Rattle.std.proofs.lemmas.Bool.{or_from, or_parts}
 use Rattle.std.proofs.lemmas.List.Folds.{list_any-append}
 use Rattle.std.proofs.lemmas.Option.{same_Some}
-use Rattle.bcv_slots.specs.Numbered.{AreDifferent, but_for}
+use Rattle.bcv_slots.specs.Numbered.{AreDifferent, but_for, has_number}
 use Rattle.bcv_slots.proofs.NumbersDiffer.{differ_with, differ_without, free_is_none, others_have_none}
 use Rattle.bcv_clientstate.specs.PartRefusals.{is_publishing}
 use Rattle.bcv_clientstate.specs.Parts.{OpenTxn, Task}
-use Rattle.bcv_clientlaws.specs.Different.{AtMostOne, DifferAsBefore, DifferWithNew, DifferWithTxn, DifferWithoutTask, DifferWithoutTxn, OneWith, OneWithOther, OneWithout, OthersAreNone}
-use Rattle.bcv_clientlaws.specs.TaskLists.{task_number}
+use Rattle.bcv_clientlaws.specs.Different.{AtMostOne, DifferAsBefore, DifferWithEnded, DifferWithNew, DifferWithTxn, DifferWithoutTask, DifferWithoutTxn, OneWith, OneWithEnded, OneWithOther, OneWithout, OthersAreNone}
+use Rattle.bcv_clientlaws.specs.TaskLists.{fetches_for, task_number}
 use Rattle.bcv_clientlaws.proofs.Lists.{filter_map, map_append}
 
 -- ---- numbers
@@ -31,6 +31,26 @@ differ_as_before t p all =
     subst AreDifferent (sym (map_append task_number left (t ∷ [])))
     (subst (λ (ns : List ℕ). AreDifferent (ns ++ t.number ∷ [])) (numbers_left t.number p.tasks)
     (differ_with t.number (but_for t.number (map task_number p.tasks)) (differ_without t.number (map task_number p.tasks) all) (others_have_none t.number (map task_number p.tasks))))
+
+none_of_kept : (k : ℕ) (test : Task → Bool) (ts : List Task) → has_number k (map task_number ts) ≡ false → has_number k (map task_number (filter test ts)) ≡ false
+none_of_kept k test [] none = refl
+none_of_kept k test (t ∷ ts) none =
+    let q = or_parts (t.number == k) (has_number k (map task_number ts)) none in
+    elim (test t) as (λ (b : Bool). has_number k (map task_number (cond b (t ∷ filter test ts) (filter test ts))) ≡ false) [
+      | true ↦ or_from (t.number == k) (has_number k (map task_number (filter test ts))) q.0 (none_of_kept k test ts q.1)
+      | false ↦ none_of_kept k test ts q.1
+    ]
+
+differ_filtered : (test : Task → Bool) (ts : List Task) → AreDifferent (map task_number ts) → AreDifferent (map task_number (filter test ts))
+differ_filtered test [] all = tt
+differ_filtered test (t ∷ ts) all =
+    elim (test t) as (λ (b : Bool). AreDifferent (map task_number (cond b (t ∷ filter test ts) (filter test ts)))) [
+      | true ↦ (none_of_kept t.number test ts all.0, differ_filtered test ts all.1)
+      | false ↦ differ_filtered test ts all.1
+    ]
+
+pub differ_with_ended : DifferWithEnded
+differ_with_ended n p all = differ_filtered (λ (t : Task). not (fetches_for n t.job)) p.tasks all
 
 abbrev txn_number : OpenTxn → ℕ
 txn_number t = t.number
@@ -69,6 +89,9 @@ one_kept test (t ∷ ts) one =
 
 pub one_without : OneWithout
 one_without n p one = one_kept (λ (t : Task). not (t.number == n)) p.tasks one
+
+pub one_with_ended : OneWithEnded
+one_with_ended n p one = one_kept (λ (t : Task). not (fetches_for n t.job)) p.tasks one
 
 none_before : (t : Task) (ts : List Task) → list_any busy ts ≡ false → AtMostOne (ts ++ t ∷ [])
 none_before t [] none = ((λ h. refl), tt)

@@ -12,3 +12,4 @@ pub mod FaultsEnd
 pub mod DatabaseForms
 pub mod Taken
 pub mod StepsSeen
+pub mod TasksPut

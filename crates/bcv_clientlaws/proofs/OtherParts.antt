@@ -22,13 +22,13 @@ use Rattle.bcv_dbmap.proofs.Bools.{or_left, or_right}
 use Rattle.bcv_model.specs.declared.kept.Kept.{Kept}
 use Rattle.bcv_publish.specs.State as publish
 use Rattle.bcv_upload.specs.UploadWork as uploading
-use Rattle.bcv_clientstate.specs.Fits.{FitsJob, FitsPublish, FitsTask}
+use Rattle.bcv_clientstate.specs.Fits.{FitsJob, FitsPublish, FitsTask, FitsTxn}
 use Rattle.bcv_clientstate.specs.PartRefusals.{is_publishing}
-use Rattle.bcv_clientstate.specs.Parts.{Job, Fetching, Polling, Creating, Copying, Uploading, Cleaning, Resolving, Task, Parts, mine_of, names_of_job, names_of_pending}
+use Rattle.bcv_clientstate.specs.Parts.{OpenTxn, Job, Fetching, Polling, Creating, Copying, Uploading, Cleaning, Resolving, Task, Parts, mine_of, names_of_job, names_of_pending}
 use Rattle.bcv_clientstate.specs.Stages.{IsStagedTask}
 use Rattle.bcv_clientstate.proofs.Growth.{grows}
-use Rattle.bcv_clientlaws.specs.OtherParts.{EntriesFit, FitsWithoutTask, FoundTaskFits, Includes, KeepsTaken, KeptFits, KeptFitsQuietly, LatestFits, NamesSuffice, OthersLeaveFits, ShutFits, TaskFitsLast, TasksFit, TxnsFit}
-use Rattle.bcv_clientlaws.specs.TaskLists.{with_tasks}
+use Rattle.bcv_clientlaws.specs.OtherParts.{EntriesFit, FitsWithEndedTxn, FitsWithoutTask, FoundTaskFits, Includes, KeepsTaken, KeptFits, KeptFitsQuietly, LatestFits, NamesSuffice, OthersLeaveFits, RisenFits, ShutFits, TaskFitsLast, TasksFit, TxnsFit}
+use Rattle.bcv_clientlaws.specs.TaskLists.{fetches_for, with_tasks}
 
 -- ---- names
 
@@ -245,6 +245,15 @@ txns_fit log p entries ts fits each = record {
   cached = fits.cached;
 }
 
+pub fits_with_ended_txn : FitsWithEndedTxn
+fits_with_ended_txn log p entries n fits =
+    let left : List Task = filter (λ (t : Task). not (fetches_for n t.job)) p.tasks in
+    txns_fit log (with_tasks left p) entries (filter (λ (t : OpenTxn). not (t.number == n)) p.txns)
+    (tasks_fit (mine_of p) log p entries left fits
+    (all_filter (FitsTask (mine_of p) p.id p.kept log) (λ (t : Task). not (fetches_for n t.job)) p.tasks fits.tasks)
+    (all_filter IsStagedTask (λ (t : Task). not (fetches_for n t.job)) p.tasks fits.staged))
+    (all_filter (FitsTxn (history_of log)) (λ (t : OpenTxn). not (t.number == n)) p.txns fits.txns)
+
 pub entries_fit : EntriesFit
 entries_fit log p entries cached fits each = record {
   named = fits.named;
@@ -376,3 +385,21 @@ kept_fits_quietly log p entries k known fits is quiet =
       staged = fits.staged;
       cached = fits.cached;
     }
+
+pub risen_fits : RisenFits
+risen_fits log id left seen is_id is is_seen = record {
+  named = is.named;
+  is_id = is_id;
+  ordered = is.ordered;
+  locals = is.locals;
+  known_order = tt;
+  known_apart = tt;
+  known = tt;
+  pending = is.pending;
+  latest = tt;
+  seen = is_seen;
+  txns = tt;
+  tasks = tt;
+  staged = tt;
+  cached = tt;
+}

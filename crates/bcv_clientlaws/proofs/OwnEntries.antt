@@ -9,9 +9,10 @@ use Rattle.bcv_base.specs.declared.manifest.DbEntry.{DbEntry}
 use Rattle.bcv_base.specs.declared.manifest.Manifest.{Manifest}
 use Rattle.bcv_base.specs.declared.object.ObjName.TheVariants as object
 use Rattle.bcv_base.specs.declared.outcome.Outcome.{Outcome}
+use Rattle.bcv_base.specs.declared.outcome.Outcome.TheVariants as outcome
 use Rattle.bcv_base.specs.declared.seen.Latest.{Latest}
 use Rattle.bcv_base.specs.declared.seen.Seen.{Seen}
-use Rattle.bcv_base.specs.History.{Item, BlockPut, BlockDeleted, Published, as_read, history_after, history_of}
+use Rattle.bcv_base.specs.History.{Item, BlockPut, BlockDeleted, Published, as_read, first_put, history_after, history_of}
 use Rattle.bcv_base.specs.HistoryLaws.{history_after-append, history_of-more}
 use Rattle.bcv_base.specs.Ids.{IsId, has_id}
 use Rattle.bcv_base.specs.Keyed.{keyed}
@@ -39,8 +40,9 @@ use Rattle.bcv_model.specs.declared.kept.Uploading as concrete
 use Rattle.bcv_publish.specs.declared.work.BlockEnd.{BlockEnd}
 use Rattle.bcv_publish.specs.declared.work.BlockEnd.TheVariants as end
 use Rattle.bcv_publish.specs.declared.work.PutEnd.TheVariants as put
+use Rattle.bcv_publish.specs.declared.work.Work.{Work}
 use Rattle.bcv_publish.specs.declared.work.Work.TheVariants as work
-use Rattle.bcv_publish.specs.BlockPut.{SoundBlockEnds, block_work}
+use Rattle.bcv_publish.specs.BlockPut.{BlockFails, BlockLost, SoundBlockEnds, block_work}
 use Rattle.bcv_publish.specs.ManifestPut.{refused_once}
 use Rattle.bcv_publish.specs.State as publish
 use Rattle.bcv_upload.specs.BlockText.{IsViewOf, per_block}
@@ -56,7 +58,7 @@ use Rattle.bcv_clientstate.proofs.Bases.{stays}
 use Rattle.bcv_clientstate.proofs.Growth.{all_kept, some_kept}
 use Rattle.bcv_clientlaws.proofs.OtherParts.{task_fits_last}
 use Rattle.bcv_clientlaws.proofs.Appended.{entry_later, known_later, latest_later, local_later, seen_later, txn_later}
-use Rattle.bcv_clientlaws.specs.OwnEntries.{AreOfBlocks, BlocksLeaveFits, CleanupDeletes, CleanupFits, CleanupIsRefused, CleanupReadsOn, CopyFits, CopyIsRefused, CopyWorks, CreateFits, GoesOnAs, IsIntended, IsOwnWork, IsSameUpload, PublicationFits, TaskGoesOnFits, UploadFits, UploadIsRefused, UploadWorks}
+use Rattle.bcv_clientlaws.specs.OwnEntries.{AreOfBlocks, BlocksLeaveFits, CleanupAppends, CleanupDeletes, CleanupFits, CleanupIsRefused, CleanupReadsOn, CopyAppends, CopyFits, CopyIsRefused, CopyWorks, CreateFits, GoesOnAs, IsIntended, IsOwnWork, IsSameUpload, PublicationFits, TaskGoesOnFits, UploadAppends, UploadFits, UploadIsRefused, UploadWorks}
 
 -- ---- whatever is appended
 
@@ -236,7 +238,7 @@ goes_on_same after p q is kept = subst (GoesOnAs after p) (sym is) (record { wri
 one_put : (own : List Entry) (i : Id16) (bytes : List ℕ) (etag : ℕ) → own ≡ entry.Put true (object.Block i) bytes etag ∷ [] → AreOfBlocks own
 one_put own i bytes etag is = subst AreOfBlocks (sym is) (tt, tt)
 
-none_put : (own : List Entry) → own ≡ [] → AreOfBlocks own
+pub none_put : (own : List Entry) → own ≡ [] → AreOfBlocks own
 none_put own is = subst AreOfBlocks (sym is) tt
 
 copy_by : (o : Outcome) (before after own : List Entry) (ids : List Id16) (seen : Seen) (s t : copy.State) (l : Option Latest) → IfSome s.publish.latest (IsKept after)
@@ -295,9 +297,73 @@ pub cleanup_deletes : CleanupDeletes
 cleanup_deletes o after own i at s t kept leaves ends =
     record { blocks = subst AreOfBlocks (sym ends.1) (tt, tt); goes_on = goes_on_same after s.publish t.publish (ap (λ (x : cleanup.State). x.publish) leaves) kept }
 
+-- ---- what a step appends, whatever it answers
+
+lost_put : (first : Option (List ℕ)) (own : List Entry) (i : Id16) (bytes : List ℕ) → BlockLost first own i bytes → AreOfBlocks own
+lost_put None own i bytes is = one_put own i bytes is.0 is.1
+lost_put (Some earlier) own i bytes is = none_put own is
+
+failed_put : (o : Outcome) (first : Option (List ℕ)) (own : List Entry) (i : Id16) (bytes : List ℕ) → BlockFails o first own i bytes → AreOfBlocks own
+failed_put outcome.Ok first own i bytes is = absurd is
+failed_put outcome.Fail first own i bytes is = none_put own is
+failed_put outcome.Lost first own i bytes is = lost_put first own i bytes is
+
+any_put : (o : Outcome) (past : List Item) (own : List Entry) (ids : List Id16) (bytes : List ℕ) (end : BlockEnd) → SoundBlockEnds o past own ids bytes end → AreOfBlocks own
+any_put o past own ids bytes end.Stored ends = one_put own ends.0 bytes ends.4.0 ends.4.1
+any_put o past own ids bytes end.NameTaken ends = none_put own ends.4
+any_put o past own ids bytes end.StoreFault ends = failed_put o (first_put past ends.0) own ends.0 bytes ends.2
+any_put o past own ids bytes end.NamesFault ends = none_put own ends.1
+any_put o past own ids bytes end.NoMemory ends = none_put own ends
+
+copied : (o : Outcome) (past : List Item) (own : List Entry) (ids : List Id16) (bytes : List ℕ) (result : Work) → copying.SoundBlockWork o past own ids bytes result → AreOfBlocks own
+copied o past own ids bytes work.More ends = any_put o past own ids bytes end.Stored ends
+copied o past own ids bytes work.NameTaken ends = any_put o past own ids bytes end.NameTaken ends
+copied o past own ids bytes work.StoreFault ends = any_put o past own ids bytes end.StoreFault ends
+copied o past own ids bytes work.NamesFault ends = any_put o past own ids bytes end.NamesFault ends
+copied o past own ids bytes work.NoMemory ends = any_put o past own ids bytes end.NoMemory ends
+copied o past own ids bytes _ ends = absurd ends
+
+copy_appended : (o : Outcome) (before after own : List Entry) (ids : List Id16) (seen : Seen) (s t : copy.State) (result : Work) (l : Option Latest)
+    → copying.SoundWorkEnds o before after own ids l seen s result t → AreOfBlocks own
+copy_appended o before after own ids seen s t result None ends = none_put own ends.0
+copy_appended o before after own ids seen s t result (Some l) ends = copied o (history_of before) own ids (copying.next_text l.manifest.block s s.edit) result ends
+
+pub copy_appends : CopyAppends
+copy_appends o before after own ids seen s t result ends = copy_appended o before after own ids seen s t result s.publish.latest ends
+
+upload_appended : (o : Outcome) (before after own : List Entry) (ids : List Id16) (fetch : Bool) (seen : Seen) (text : List ℕ) (s t : upload.State) (result : Work) (l : Option Latest)
+    → uploading.SoundWorkEnds o before after own ids l fetch seen text s result t → AreOfBlocks own
+upload_appended o before after own ids fetch seen text s t result None ends = none_put own ends.0
+upload_appended o before after own ids true seen text s t result (Some l) ends = none_put own ends.0
+upload_appended o before after own ids false seen text s t result (Some l) ends = any_put o (history_of before) own ids text ends.0 ends.2
+
+pub upload_appends : UploadAppends
+upload_appends o before after own ids fetch seen text s t result ends = upload_appended o before after own ids fetch seen text s t result s.publish.latest ends
+
+deleted : (own : List Entry) (i : Id16) (at : ℕ) → cleaning.IsDeletion own i at → AreOfBlocks own
+deleted own i at is = subst AreOfBlocks (sym is) (tt, tt)
+
+failed_deletion : (o : Outcome) (own : List Entry) (i : Id16) (at : ℕ) → cleaning.DeletionFails o own i at → AreOfBlocks own
+failed_deletion outcome.Ok own i at is = absurd is
+failed_deletion outcome.Fail own i at is = none_put own is
+failed_deletion outcome.Lost own i at is = deleted own i at is
+
+any_deletion : (o : Outcome) (own : List Entry) (i : Id16) (at : ℕ) (result : Work) → cleaning.SoundDeleteEnds o own i at result → AreOfBlocks own
+any_deletion o own i at work.More ends = deleted own i at ends.1
+any_deletion o own i at work.StoreFault ends = failed_deletion o own i at ends
+any_deletion o own i at work.NoMemory ends = none_put own ends
+any_deletion o own i at _ ends = absurd ends
+
+cleanup_appended : (o : Outcome) (after own : List Entry) (seen : Seen) (s t : cleanup.State) (result : Work) (l : Option Latest) → cleaning.SoundWorkEnds o after own l seen s result t → AreOfBlocks own
+cleanup_appended o after own seen s t result None ends = none_put own ends.0
+cleanup_appended o after own seen s t result (Some l) ends = any_deletion o own ends.0 ends.1 result ends.3
+
+pub cleanup_appends : CleanupAppends
+cleanup_appends o after own seen s t result ends = cleanup_appended o after own seen s t result s.publish.latest ends
+
 -- ---- a put that is refused
 
-refused_fits : (mine : List Id16) (writer : Id16) (log : List Entry) (p q : publish.State) (read : Latest) → FitsPublish mine writer log p → q ≡ refused_once p read → FitsPublish mine writer log q
+pub refused_fits : (mine : List Id16) (writer : Id16) (log : List Entry) (p q : publish.State) (read : Latest) → FitsPublish mine writer log p → q ≡ refused_once p read → FitsPublish mine writer log q
 refused_fits mine writer log p q read fits is =
     subst (FitsPublish mine writer log) (sym is)
     (record { same_writer = fits.same_writer; writer_is_mine = fits.writer_is_mine; is_id = fits.is_id; is_mine = fits.is_mine; fresh = fits.fresh; read = tt })

@@ -1,10 +1,12 @@
 -- A client's tasks by their numbers are the machine's.
-use Rattle.std.proofs.Common.{◌∙◌, ◌==◌, not, List, [], ◌∷◌, refl, sym, ap}
+use Rattle.std.proofs.Common.{◌≡◌, ◌∙◌, ◌==◌, not, List, [], ◌∷◌, refl, sym, ap, filter, Option, ℕ}
+use Rattle.bcv_machine.specs.Reading.{is_job_of}
 use Rattle.bcv_machine.specs.State as m
 use Rattle.bcv_machine.specs.State.{with_up}
-use Rattle.bcv_clientstate.specs.Parts.{Fetching, Polling, Creating, Copying, Uploading, Cleaning, Resolving, OpenTxn, Task}
-use Rattle.bcv_clientstate.specs.SeenClient.{seen_task, seen_txn, seen_up, side_of}
-use Rattle.bcv_clientlaws.specs.TaskLists.{FreeIsFree, JobIsBusy, TaskComes, TaskGoes, TaskGoesOn, TaskIsFound, TaskNumbersAre, TxnNumbersAre, task_number}
+use Rattle.bcv_model.specs.declared.kept.PendingPub.{PendingPub}
+use Rattle.bcv_clientstate.specs.Parts.{OpenTxn, Job, Fetching, Polling, Creating, Copying, Uploading, Cleaning, Resolving, Task}
+use Rattle.bcv_clientstate.specs.SeenClient.{seen_job, seen_task, seen_txn, seen_up, side_of}
+use Rattle.bcv_clientlaws.specs.TaskLists.{FreeIsFree, JobIsBusy, TaskComes, TaskGoes, TaskGoesOn, TaskIsFound, TaskNumbersAre, TxnEnds, TxnNumbersAre, fetches_for, task_number, with_ended_txn}
 use Rattle.bcv_clientlaws.proofs.Lists.{filter_map, find_map, map_append, map_map}
 
 pub task_goes : TaskGoes
@@ -14,6 +16,22 @@ task_goes past n p =
 
 pub task_comes : TaskComes
 task_comes past t p = ap (λ (ts : List m.Task). record (seen_up past p) { tasks = ts }) (map_append (seen_task p.kept.pending) p.tasks (t ∷ []))
+
+same_fetch : (waiting : Option PendingPub) (n : ℕ) (j : Job) → is_job_of n (seen_job waiting j) ≡ fetches_for n j
+same_fetch waiting n (Fetching access txn page) = refl
+same_fetch waiting n Polling = refl
+same_fetch waiting n (Creating block retention id) = refl
+same_fetch waiting n (Copying s) = refl
+same_fetch waiting n (Uploading s view) = refl
+same_fetch waiting n (Cleaning s) = refl
+same_fetch waiting n Resolving = refl
+
+pub txn_ends : TxnEnds
+txn_ends past n p =
+    ap (λ (ts : List m.Txn). record (seen_up past (with_ended_txn n p)) { txns = ts })
+    (sym (filter_map (seen_txn past) (λ (t : m.Txn). not (t.number == n)) (λ (t : OpenTxn). not (t.number == n)) (λ t. refl) p.txns))
+    ∙ ap (λ (ts : List m.Task). record (seen_up past p) { txns = filter (λ (t : m.Txn). not (t.number == n)) (seen_up past p).txns; tasks = ts })
+    (sym (filter_map (seen_task p.kept.pending) (λ (t : m.Task). not (is_job_of n t.job)) (λ (t : Task). not (fetches_for n t.job)) (λ t. ap not (same_fetch p.kept.pending n t.job)) p.tasks))
 
 pub task_goes_on : TaskGoesOn
 task_goes_on moment past n j q p f is =

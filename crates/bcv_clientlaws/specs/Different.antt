@@ -4,7 +4,7 @@ use Rattle.std.specs.List.{list_any}
 use Rattle.bcv_slots.specs.Numbered.{AreDifferent, least_free}
 use Rattle.bcv_clientstate.specs.PartRefusals.{is_publishing, runs_publication}
 use Rattle.bcv_clientstate.specs.Parts.{OpenTxn, Task, Parts}
-use Rattle.bcv_clientlaws.specs.TaskLists.{task_at, task_numbers, txn_numbers, with_task, without_task}
+use Rattle.bcv_clientlaws.specs.TaskLists.{task_at, task_numbers, txn_numbers, with_ended_txn, with_task, without_task}
 
 -- ---- tasks
 
@@ -24,6 +24,10 @@ abbrev pub DifferAsBefore : Type 0
 DifferAsBefore =
     (t : Task) (p : Parts) → AreDifferent (task_numbers p)
     → AreDifferent (task_numbers (with_task t (without_task t.number p)))
+
+-- those that fetch for a transaction that ends
+abbrev pub DifferWithEnded : Type 0
+DifferWithEnded = (n : ℕ) (p : Parts) → AreDifferent (task_numbers p) → AreDifferent (task_numbers (with_ended_txn n p))
 
 -- ---- transactions
 
@@ -64,6 +68,9 @@ OthersAreNone =
 
 abbrev pub OneWithout : Type 0
 OneWithout = (n : ℕ) (p : Parts) → AtMostOne p.tasks → AtMostOne (without_task n p).tasks
+
+abbrev pub OneWithEnded : Type 0
+OneWithEnded = (n : ℕ) (p : Parts) → AtMostOne p.tasks → AtMostOne (with_ended_txn n p).tasks
 
 -- any task may come where none is one
 abbrev pub OneWith : Type 0

@@ -8,3 +8,4 @@ pub mod Resolves
 pub mod FaultEnds
 pub mod Forms
 pub mod TaskSteps
+pub mod PublishTasks

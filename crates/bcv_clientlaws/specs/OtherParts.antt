@@ -1,12 +1,12 @@
 -- A client of which one part was replaced, or to whose log others have appended, still fits.
-use Rattle.std.specs.Prelude.{◌≡◌, ℕ, true, false, List, ◌++◌, Option, Some, IfSome}
+use Rattle.std.specs.Prelude.{◌≡◌, ℕ, true, false, List, [], ◌++◌, Option, Some, IfSome}
 use Rattle.std.specs.List.{AllByRecursion}
 use Rattle.bcv_base.specs.declared.id.Id16.{Id16}
 use Rattle.bcv_base.specs.declared.log.Entry.{Entry}
 use Rattle.bcv_base.specs.declared.seen.Latest.{Latest}
 use Rattle.bcv_base.specs.declared.seen.Seen.{Seen}
 use Rattle.bcv_base.specs.History.{history_of}
-use Rattle.bcv_base.specs.Ids.{has_id}
+use Rattle.bcv_base.specs.Ids.{IsId, has_id}
 use Rattle.bcv_base.specs.Image.{Writes}
 use Rattle.bcv_cache.specs.Entry as cache
 use Rattle.bcv_databases.specs.declared.known.Known.{Known}
@@ -25,8 +25,9 @@ use Rattle.bcv_clientstate.specs.KeptLaws.{IsOrdered}
 use Rattle.bcv_clientstate.specs.KnownLaws.{AreKnown}
 use Rattle.bcv_clientstate.specs.Parts.{OpenTxn, Job, Task, Parts, mine_of, names_of_job}
 use Rattle.bcv_clientstate.specs.Stages.{IsStagedTask}
+use Rattle.bcv_clientstate.specs.UpSides.{risen_parts}
 use Rattle.bcv_clientlaws.specs.Different.{with_txns}
-use Rattle.bcv_clientlaws.specs.TaskLists.{task_at, with_task, with_tasks, without_task}
+use Rattle.bcv_clientlaws.specs.TaskLists.{task_at, with_ended_txn, with_task, with_tasks, without_task}
 
 -- ---- what others append
 
@@ -89,6 +90,11 @@ TxnsFit =
     → AllByRecursion (FitsTxn (history_of log)) ts
     → Fits (with_txns ts p) entries log
 
+-- one that ends takes its tasks along
+abbrev pub FitsWithEndedTxn : Type 0
+FitsWithEndedTxn =
+    (log : List Entry) (p : Parts) (entries : List cache.Entry) (n : ℕ) → Fits p entries log → Fits (with_ended_txn n p) entries log
+
 abbrev pub EntriesFit : Type 0
 EntriesFit =
     (log : List Entry) (p : Parts) (entries cached : List cache.Entry) → Fits p entries log
@@ -150,6 +156,12 @@ LeavesCommits (note.Revert db) = ⊥
 abbrev pub NotesKeepTaken : Type 0
 NotesKeepTaken =
     (k : Kept) (x : bytes.Note) → IsOrdered k → MayStand k x → LeavesCommits x → KeepsTaken k (after_note k x)
+
+-- a client that has just come up
+abbrev pub RisenFits : Type 0
+RisenFits =
+    (log : List Entry) (id : Id16) (left : Kept) (seen : Seen) → IsId id → FitsKept log id left [] → FitsSeen (history_of log) seen
+    → Fits (risen_parts id left seen) [] log
 
 -- whether the journal is closed does not count
 abbrev pub ShutFits : Type 0

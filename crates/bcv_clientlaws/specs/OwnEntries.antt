@@ -25,6 +25,7 @@ use Rattle.bcv_model.specs.declared.kept.Kept.{Kept}
 use Rattle.bcv_model.specs.declared.kept.PendingPub.{PendingPub}
 use Rattle.bcv_model.specs.declared.kept.Uploading as concrete
 use Rattle.bcv_publish.specs.declared.work.PutEnd.TheVariants as put
+use Rattle.bcv_publish.specs.declared.work.Work.{Work}
 use Rattle.bcv_publish.specs.declared.work.Work.TheVariants as work
 use Rattle.bcv_publish.specs.ManifestAppend.{IsAppended}
 use Rattle.bcv_publish.specs.ManifestGet.{SoundGetEnds}
@@ -160,6 +161,25 @@ CleanupDeletes =
     → IfSome s.publish.latest (IsKept after)
     → cleaning.DeleteLeaves s work.More t → cleaning.SoundDeleteEnds o own i at work.More
     → IsOwnWork own after s.publish t.publish
+
+-- whatever a step before the put answers, what it appends is of blocks
+abbrev pub CopyAppends : Type 0
+CopyAppends =
+    (o : Outcome) (before after own : List Entry) (ids : List Id16) (seen : Seen) (s t : copy.State)
+    (result : Work)
+    → copying.SoundWorkEnds o before after own ids s.publish.latest seen s result t → AreOfBlocks own
+
+abbrev pub UploadAppends : Type 0
+UploadAppends =
+    (o : Outcome) (before after own : List Entry) (ids : List Id16) (fetch : Bool) (seen : Seen) (text : List ℕ)
+    (s t : upload.State) (result : Work)
+    → uploading.SoundWorkEnds o before after own ids s.publish.latest fetch seen text s result t
+    → AreOfBlocks own
+
+abbrev pub CleanupAppends : Type 0
+CleanupAppends =
+    (o : Outcome) (after own : List Entry) (seen : Seen) (s t : cleanup.State) (result : Work)
+    → cleaning.SoundWorkEnds o after own s.publish.latest seen s result t → AreOfBlocks own
 
 -- ---- a put that is refused, after which a task goes on
 

@@ -39,7 +39,8 @@ known_resolved n after p = with_made known_name (known_left n after.locals p.kep
 
 -- the pending publication was made as the version of a number
 abbrev pub resolved_at : ℕ → Id16 → Parts → Parts
-resolved_at n id p = record (with_note (note.Done id n) p) { known = known_resolved n (after_note p.kept (note.Done id n)) p }
+resolved_at n id p =
+    record (with_note (note.Done id n) p) { known = known_resolved n (after_note p.kept (note.Done id n)) p }
 
 -- what is pending and what a resolve of it found, while no task publishes
 pub record IsResolved (log : List Entry) (entries : List cache.Entry) (p : Parts) (x : PendingPub) (seen : Seen)

@@ -180,7 +180,8 @@ pub record IsUploadOver (l : Local) (base : TxnBase) (size : ℕ) (touched : Lis
 
 -- the new upload of all of them
 abbrev pub new_uploading : TxnBase → ℕ → List ℕ → Id16 → Id16 → Local → Job
-new_uploading base size touched writer id l = Uploading (upload.new_upload base size touched writer id) (map writes_of l.commits)
+new_uploading base size touched writer id l =
+    Uploading (upload.new_upload base size touched writer id) (map writes_of l.commits)
 
 abbrev pub UploadStarts : Type 0
 UploadStarts =

@@ -1,14 +1,15 @@
 -- A client's tasks by their numbers: looked up, taken out and put last; and that these are the machine's.
-use Rattle.std.specs.Prelude.{◌≡◌, ℕ, ◌==◌, not, List, [], ◌∷◌, ◌++◌, map, filter, find, Option, Some}
+use Rattle.std.specs.Prelude.{◌≡◌, ℕ, ◌==◌, Bool, false, not, List, [], ◌∷◌, ◌++◌, map, filter, find, Option, Some}
 use Rattle.std.specs.Option.{option_map}
 use Rattle.bcv_base.specs.History.{Item}
+use Rattle.bcv_machine.specs.Reading.{without_txn}
 use Rattle.bcv_machine.specs.Refusals as refusals
 use Rattle.bcv_machine.specs.State as m
 use Rattle.bcv_machine.specs.Step.{give_back}
 use Rattle.bcv_model.specs.declared.kept.PendingPub.{PendingPub}
 use Rattle.bcv_slots.specs.Numbered.{least_free}
 use Rattle.bcv_clientstate.specs.PartRefusals.{is_publishing}
-use Rattle.bcv_clientstate.specs.Parts.{OpenTxn, Job, Task, Parts}
+use Rattle.bcv_clientstate.specs.Parts.{OpenTxn, Job, Fetching, Polling, Creating, Copying, Uploading, Cleaning, Resolving, Task, Parts}
 use Rattle.bcv_clientstate.specs.SeenClient.{Free, seen_job, seen_task, seen_up, side_of}
 
 -- ---- in the parts
@@ -36,6 +37,24 @@ with_task t p = with_tasks (p.tasks ++ t ∷ []) p
 abbrev pub without_task : ℕ → Parts → Parts
 without_task n p = with_tasks (filter (λ (t : Task). not (t.number == n)) p.tasks) p
 
+-- the job fetches a page of the transaction of a number
+abbrev pub fetches_for : ℕ → Job → Bool
+fetches_for n (Fetching access txn page) = txn == n
+fetches_for n Polling = false
+fetches_for n (Creating block retention id) = false
+fetches_for n (Copying s) = false
+fetches_for n (Uploading s view) = false
+fetches_for n (Cleaning s) = false
+fetches_for n Resolving = false
+
+-- with the transaction of a number ended: without it, and without the tasks that fetch for it
+abbrev pub with_ended_txn : ℕ → Parts → Parts
+with_ended_txn n p =
+    record p {
+      txns = filter (λ (t : OpenTxn). not (t.number == n)) p.txns;
+      tasks = filter (λ (t : Task). not (fetches_for n t.job)) p.tasks;
+    }
+
 -- ---- the list
 
 -- a task that is taken out
@@ -48,6 +67,10 @@ abbrev pub TaskComes : Type 0
 TaskComes =
     (past : List Item) (t : Task) (p : Parts)
     → seen_up past (with_task t p) ≡ m.with_task (seen_up past p) t.number (seen_job p.kept.pending t.job)
+
+-- a transaction that ends takes its tasks along
+abbrev pub TxnEnds : Type 0
+TxnEnds = (past : List Item) (n : ℕ) (p : Parts) → seen_up past (with_ended_txn n p) ≡ without_txn (seen_up past p) n
 
 -- a publication that goes on
 abbrev pub TaskGoesOn : Type 0

@@ -11,7 +11,7 @@ mod starts;
 mod steps;
 mod tasks;
 
-pub use fits::{manifests_fit, own_entries_fit};
+pub use fits::{manifests_fit, own_entries_fit, publishing_tasks_fit};
 pub use forms::databases_stay_in_form;
 pub use starts::{new_tasks_are_the_machines, new_tasks_fit, starts_are_as_asked};
 pub use steps::{faults_end_as_the_machines, resolves_are_the_machines, steps_are_of_their_tasks};

@@ -51,6 +51,7 @@ module _ {D : Type 0} {g : _} (told : DiskTold) (shown : D → DiskShown) (old n
         fails = ends.fails;
         full = λ e. let lt = ends.full e in omega (arith, lt);
         any_moment = λ tells holds may. ends.any_moment tells holds (may none);
+        counts = λ tells troubled is free holds may. ends.counts tells troubled is holds (may none);
         goes = λ tells may f journaled. goes_as shown new x f old.databases.kept.pending fault none (ends.goes tells (may none) f journaled (m.Intending (seen_pending x)) refl);
       }
 
@@ -72,6 +73,7 @@ module _ {D : Type 0} {g : _} (told : DiskTold) (shown : D → DiskShown)
     fails = DiskFails-none told (shown (log_disk old.log)) (λ e. absurd (cc));
     full = λ e. absurd (cc);
     any_moment = λ tells holds may. rested told shown only_now old old (note.Intent x) is_open refl rest tells holds;
+    counts = λ tells troubled done free holds may. absurd (cc);
     goes = λ tells may f journaled. subst (λ (o : Option PendingPub). Journaled shown old.log old.databases.kept (free_intended o x f)) (sym is) journaled;
   }
 

@@ -9,3 +9,5 @@ pub mod LocalLaws
 mod LocalSteps
 mod TableLaws
 pub mod FitsLedger
+mod Named
+mod ResolveLaws

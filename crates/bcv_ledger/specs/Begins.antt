@@ -17,6 +17,7 @@ use Rattle.bcv_model.specs.Notes.{note_size, note_text}
 use Rattle.bcv_clientstate.specs.Journaled.{Journaled, free_failed, free_noted}
 use Rattle.bcv_clientstate.specs.SeenClient.{Free}
 use Rattle.bcv_clientstate.specs.SeenKept.{seen_pending}
+use Rattle.bcv_ledger.specs.LedgerNotes.{CountsNote}
 use Rattle.bcv_ledger.specs.NoteEnds.{IsNoteFault, ShutAfter}
 use Rattle.bcv_ledger.specs.declared.ledger.Ledger.{Ledger}
 
@@ -64,5 +65,7 @@ pub record Begins {D : Type 0} {g : _} (told : DiskTold) (shown : D → DiskShow
   -- a crash at any moment of the call leaves what was kept, or that with the intent
   pub any_moment : told.tells → Holds shown old.log old.databases.kept → MayBegin old.databases.kept x
       → LeavesOnly (shown (log_disk old.log)) (shown (log_disk new.log)) (LoadsUpTo old.databases.kept (log_tail old.log + log_area old.log) (note.Intent x ∷ []))
+  pub counts : told.tells → told.troubled → fault ≡ None → old.databases.kept.pending ≡ None → Holds shown old.log old.databases.kept → MayBegin old.databases.kept x
+      → CountsNote shown old.log new.log old.databases.kept (note.Intent x)
   pub goes : told.tells → MayBegin old.databases.kept x → (f : Free) → Journaled shown old.log old.databases.kept f
       → BeginGoes shown new.log new.databases.kept old.databases.kept.pending x f fault

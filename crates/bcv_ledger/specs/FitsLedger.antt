@@ -4,9 +4,9 @@ use Rattle.std.specs.List.{AllByRecursion}
 use Rattle.bcv_base.specs.declared.id.Id16.{Id16}
 use Rattle.bcv_base.specs.declared.manifest.Manifest.{Manifest}
 use Rattle.bcv_base.specs.History.{Item}
-use Rattle.bcv_base.specs.Keyed.{keyed, with_keyed, with_made, without_keyed}
+use Rattle.bcv_base.specs.Keyed.{keyed, with_keyed, without_keyed}
 use Rattle.bcv_databases.specs.Catalog.{known_name}
-use Rattle.bcv_databases.specs.Changes.{base_of, known_left, note_over}
+use Rattle.bcv_databases.specs.Changes.{base_of, note_over}
 use Rattle.bcv_databases.specs.declared.known.Known.{Known}
 use Rattle.bcv_dbmap.specs.Outlived.{IsPublished}
 use Rattle.bcv_dbmap.specs.Sound.{Sound}
@@ -21,6 +21,7 @@ use Rattle.bcv_clientstate.specs.BaseLaws.{FitsLocal}
 use Rattle.bcv_clientstate.specs.Fits.{FitsKnown, FitsPending}
 use Rattle.bcv_clientstate.specs.KnownLaws.{known_of}
 use Rattle.bcv_clientstate.specs.SeenContainer.{HasBase}
+use Rattle.bcv_ledger.specs.NoteEnds.{known_found}
 
 -- the client's id is kept, each database stands on a base of the log, and what is pending was made or not; that names ascend, and
 -- that no known database has commits, a ledger says of itself
@@ -67,7 +68,7 @@ MadeKeepsFit =
 abbrev pub ResolvedKeepsFit : Type 0
 ResolvedKeepsFit =
     (past : List Item) (id : Id16) (k : Kept) (known : List Known) (pub_id : Id16) (number : ℕ) → FitsLedger past id k known → IsUploadedAt past number k.pending
-    → FitsLedger past id (after_note k (note.Done pub_id number)) (with_made known_name (known_left number (after_note k (note.Done pub_id number)).locals k.pending) known)
+    → FitsLedger past id (after_note k (note.Done pub_id number)) (known_found k pub_id number known)
 
 abbrev pub PollKeepsFit : Type 0
 PollKeepsFit =

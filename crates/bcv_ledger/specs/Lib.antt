@@ -7,3 +7,5 @@ pub mod LocalLaws
 pub mod TableLaws
 pub mod FitsLedger
 pub mod Rests
+pub mod LedgerLoads
+pub mod ResolveLaws

@@ -1,8 +1,12 @@
 -- How a call ends that notes something: its note stands, or a fault is answered.
-use Rattle.std.specs.Prelude.{◌≡◌, ◌+◌, ◌*◌, ◌^◌, ◌<◌, Bool, true, false, List, [], ◌∷◌, length, Option, Some, None}
+use Rattle.std.specs.Prelude.{◌≡◌, ◌+◌, ◌*◌, ◌^◌, ◌<◌, ℕ, Bool, true, false, List, [], ◌∷◌, length, Option, Some, None}
+use Rattle.bcv_base.specs.declared.id.Id16.{Id16}
+use Rattle.bcv_base.specs.Keyed.{with_made}
 use Rattle.bcv_clientlog.specs.declared.log.ClientLog.{ClientLog}
 use Rattle.bcv_clientlog.specs.LogParts.{Holds, LoadsUpTo, is_shut, log_area, log_disk, log_tail}
 use Rattle.bcv_clientlog.specs.Noting.{spare_after}
+use Rattle.bcv_databases.specs.Catalog.{known_name}
+use Rattle.bcv_databases.specs.Changes.{known_left}
 use Rattle.bcv_databases.specs.Sound.{KeepsViews}
 use Rattle.bcv_databases.specs.declared.known.Known.{Known}
 use Rattle.bcv_disk.specs.Crash.{LeavesOnly}
@@ -13,6 +17,7 @@ use Rattle.bcv_journal.specs.declared.fault.Noted.TheVariants.{Done, JournalFull
 use Rattle.bcv_machine.specs.State as m
 use Rattle.bcv_model.specs.declared.kept.Kept.{Kept}
 use Rattle.bcv_model.specs.declared.note.Note.{Note}
+use Rattle.bcv_model.specs.declared.note.Note.TheVariants as note
 use Rattle.bcv_model.specs.declared.reply.Reply.{Reply}
 use Rattle.bcv_model.specs.declared.reply.Reply.TheVariants as reply
 use Rattle.bcv_model.specs.NoteRules.{MayStand}
@@ -57,6 +62,10 @@ kept_ended (Some fault) k x = k
 abbrev pub known_ended : Option Reply → List Known → List Known → List Known
 known_ended None before after = after
 known_ended (Some fault) before after = before
+
+-- the known databases once the pending publication was found to be made: with that of an upload, where no commits are left
+abbrev pub known_found : Kept → Id16 → ℕ → List Known → List Known
+known_found k id number known = with_made known_name (known_left number (after_note k (note.Done id number)).locals k.pending) known
 
 -- in the machine's words: the client's log and its free parts by what is answered
 abbrev pub EndGoes : {D : Type 0} {g : _} → (D → DiskShown) → ClientLog D g → Kept → Free → Note → m.Note → Option Reply → Type 0

@@ -9,10 +9,15 @@
 
 mod laws;
 mod ledger;
+mod load;
 mod local;
 mod publication;
 mod shown;
 mod where_noted;
 
-pub use laws::{ends_keep_fits, found_is_view, lists_are_the_machines, local_notes_may_stand};
+pub use laws::{
+    ends_keep_fits, found_is_view, lists_are_the_machines, local_notes_may_stand,
+    resolves_are_the_machines,
+};
 pub use ledger::Ledger;
+pub use load::LedgerLoad;

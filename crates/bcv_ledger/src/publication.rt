@@ -1,11 +1,8 @@
 //! The notes of a publication, as faults that end a step.
 ghost use Rattle.std.specs.Prelude.{◌≡◌, ◌≢◌, ◌<◌, ◌^◌, true, false, IfErr, IfSome, OnOk, Some, is_some};
-ghost use Rattle.bcv_base.specs.Keyed.{with_made};
 ghost use Rattle.bcv_base.specs.ManifestRules.{Ascends, db_name};
 ghost use Rattle.bcv_clientlog.specs.LogParts.{is_shut};
 ghost use Rattle.bcv_clientstate.specs.KnownLaws.{known_of};
-ghost use Rattle.bcv_databases.specs.Catalog.{known_name};
-ghost use Rattle.bcv_databases.specs.Changes.{known_left};
 ghost use Rattle.bcv_databases.specs.Sound.{CanUpload};
 ghost use Rattle.bcv_model.specs.Notes.{after_note};
 ghost use Rattle.bcv_ledger.specs.NoteEnds.{noted_fault};
@@ -35,7 +32,7 @@ pub(crate) fn noted_fault(noted: Noted) -> Option<Reply>
 impl<D: Disk> Ledger<D> {
     ghost use Rattle.bcv_model.specs.declared.note.Note.TheVariants.{Done, Void};
     ghost use Rattle.bcv_ledger.specs.Begins.{Begins, WaitsFor};
-    ghost use Rattle.bcv_ledger.specs.NoteEnds.{NoteEnds};
+    ghost use Rattle.bcv_ledger.specs.NoteEnds.{NoteEnds, known_found};
 
     /// Notes the intent of a publication, where it is not pending yet. A fault ends the step.
     pub fn begin(&mut self, alloc: Global, pending: PendingPub) -> Option<Reply>
@@ -93,8 +90,7 @@ impl<D: Disk> Ledger<D> {
         requires waits { is_some self.old.databases.kept.pending ≡ true }
         requires is_open { is_shut self.old.log ≡ false }
         ensures ends { NoteEnds D.told D.shown self.old self.new (Done id number)
-            (with_made known_name (known_left number (after_note self.old.databases.kept (Done id number)).locals
-            self.old.databases.kept.pending) self.old.databases.known) result }
+            (known_found self.old.databases.kept id number self.old.databases.known) result }
         ensures fits { result ≢ Some Reply.JournalFull }
         ensures number { number < 2 ^ 64 }
     {

@@ -44,7 +44,8 @@ impl<D: Disk> Ledger<D> {
 
     /// The size of a database's pages in bytes, or `None` where it is not known.
     pub fn page_size(&self, db: &DbName) -> Option<u32>
-        ensures { result ≡ option_map (λ v. v.entry.page_size) (found_at self.now.databases db.now) }
+        ensures { result ≡ option_map (λ v. v.entry.page_size)
+            (found_at self.now.databases db.now) }
     {
         match self.databases.find(db) {
             Some(view) => Some(view.entry.page_size),

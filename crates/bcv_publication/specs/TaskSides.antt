@@ -22,7 +22,7 @@ use Rattle.bcv_tasks.specs.declared.publish_task.PublishTask.{PublishTask}
 use Rattle.bcv_tasks.specs.declared.publish_task.PublishTask.TheVariants as task
 use Rattle.bcv_tasks.specs.declared.put_answer.PutAnswer.{PutAnswer}
 use Rattle.bcv_tasks.specs.declared.put_answer.PutAnswer.TheVariants as answer
-use Rattle.bcv_tasks.specs.State.{IsRunning, brought, is_ready, latest_of, left_of, pending_of}
+use Rattle.bcv_tasks.specs.State.{IsRunning, brought, is_ready, latest_of, left_of, pending_of, writer_of}
 use Rattle.bcv_tasks.specs.TaskPut.{Appends, IsPassed, IsStillLast, PutLeaves}
 use Rattle.bcv_clientstate.specs.Fits.{Fits}
 use Rattle.bcv_clientstate.specs.KnownLaws.{known_of}
@@ -59,13 +59,14 @@ number_read (Some l) = l.manifest.number
 abbrev pub with_job : ℕ → Job → Parts → Parts
 with_job n job p = record p { tasks = record { number = n; job = job } ∷ p.tasks }
 
--- with the task, which is the one that may be pending, the client stands over a log, and its other tasks publish nothing; an
+-- with the task, of which it is the writer and which is the one that may be pending, the client stands over a log, and its other tasks publish nothing; an
 -- upload takes no more commits than a note can count
 pub record MayStep (log : List Entry) (p : Parts) (entries : List cache.Entry) (n : ℕ) (view : List Writes) (t : PublishTask) : Type 0 where
   pub sound : Sound (history_of log)
   pub fits : Fits (with_job n (job_of view t) p) entries log
   pub quiet : AllByRecursion (λ (x : Task). IsQuiet x.job) p.tasks
   pub running : IsRunning t
+  pub writer : writer_of t ≡ p.id
   pub waits : WaitsFor p.kept.pending (pending_of (length view) t)
   pub count : length view < 2 ^ 64
 

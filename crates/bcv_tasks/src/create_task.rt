@@ -1,8 +1,6 @@
 //! The task that makes a container.
 ghost use Rattle.std.specs.Prelude.{◌≡◌, true, None};
 ghost use Rattle.bcv_base.specs.ManifestRules.{is_block_size};
-ghost use Rattle.bcv_publish.specs.ManifestCreate.{CreateLeaves, ManifestCreates};
-ghost use Rattle.bcv_dbmap.specs.Applied.{first_manifest};
 ghost use Rattle.bcv_tasks.specs.State.{IsCreate};
 ghost use Rattle.bcv_tasks.specs.TaskPut.{Creates, Settles};
 

@@ -1,23 +1,17 @@
 //! A step of a publishing task before the manifest's put.
-ghost use Rattle.std.specs.Prelude.{◌≡◌, Some, false};
+ghost use Rattle.std.specs.Prelude.{◌≡◌, false};
 ghost use Rattle.std.specs.Option.{option_copied};
 ghost use Rattle.bcv_keeprule.specs.Retention.{IsKeepRule};
-ghost use Rattle.bcv_cleanup.specs.Released.{RuleAnswers};
-ghost use Rattle.bcv_tasks.specs.declared.publish_task.PublishTask.TheVariants as task;
 ghost use Rattle.bcv_tasks.specs.State.{IsRunning, is_ready};
-ghost use Rattle.bcv_tasks.specs.TaskWork.{Suits, SuitsUpload, TaskWorks, WorkLeaves, WorksAs, cache_after, view_given};
-ghost use Rattle.bcv_upload.specs.State.{view_in};
+ghost use Rattle.bcv_tasks.specs.TaskWork.{Suits, TaskWorks, WorkLeaves, WorksAs, cache_after, view_given};
 
 use crate::publish_task::PublishTask;
-use bcv_base::{Clock, Id16, Names, Seen};
+use bcv_base::{Clock, Names, Seen};
 use bcv_cache::BlockCache;
-use bcv_cleanup::Cleanup;
-use bcv_dbcopy::CopyTask;
 use bcv_keeprule::KeepRule;
 use bcv_pages::PageSet;
 use bcv_publish::Work;
 use bcv_store::Store;
-use bcv_upload::Upload;
 use std::alloc::Global;
 
 impl PublishTask {

@@ -1,0 +1,2 @@
+mod PutAnswers
+mod PutEnds

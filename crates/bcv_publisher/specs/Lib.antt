@@ -1,0 +1,2 @@
+pub mod PutStep
+pub mod Settles
