@@ -3,4 +3,4 @@ mod Compacting
 mod Trying
 mod Adding
 mod LogNoted
-mod LoadedLog
+pub mod LoadedLog

@@ -25,7 +25,7 @@ use Rattle.bcv_notes.specs.declared.keeping.Fold.TheVariants as fold
 use Rattle.bcv_notes.specs.KeptNotes.{items_size}
 use Rattle.bcv_notes.proofs.Folded.{fold_once}
 use Rattle.bcv_clientlog.specs.LogLoads.{IsOldOrSame, LogLoads}
-use Rattle.bcv_clientlog.specs.LogParts.{LoadsAs, log_disk}
+use Rattle.bcv_clientlog.specs.LogParts.{LoadsAs, LoadsOnce, log_disk}
 use Rattle.bcv_clientlog.specs.declared.load.LogLoad.TheVariants.{Ready, Refused}
 use Rattle.bcv_clientlog.specs.declared.log.ClientLog.{ClientLog}
 use Rattle.bcv_clientlog.proofs.Held.{area_is, area_size}
@@ -125,6 +125,9 @@ module _ (bytes : List ℕ) (items : List (List ℕ)) (tail : ℕ) (ends : EndsA
       let room : HasRoom nothing_kept 17 = record { begin = omega arith; end = tt } in
       breaks (subst (λ (j : Kept). HasRoom j tail) (fold_once items nothing_kept k none are) (subst (λ (n : ℕ). HasRoom nothing_kept n) (sym (short_tail short)) room))
 
+pub loads_once : LoadsOnce
+loads_once bytes a b m n x y = fold_once x.items a b x.are (its_notes bytes x.items x.tail x.ends b n y)
+
 alike : (before : DiskShown) (image : List ℕ) → IsOldOrAlike before image → IsOldOrSame before image
 alike before image (inl was) = inl was
 alike before image (inr same) = inr (λ k most l. record { items = l.items; tail = l.tail; ends = same.1 l.items l.tail l.ends; are = l.are; room = l.room; within = l.within })
@@ -138,13 +141,13 @@ module _ {D : Type 0} {g : _} (told : DiskTold) (shown : D → DiskShown) (disk 
   refused new (NotJournal place) j = record {
     loaded = λ t. let l = j.loaded t in (inl l.0, l.1, l.2);
     only = λ t k most l. let both : Ok l.items ≡ Err place = Loads-once (shown disk).seen (Ok l.items) (Err place) (ends_load (shown disk).seen l.items l.tail l.ends) (j.loaded t).0 in cc both;
-    is_open = tt;
+    takes = tt;
     any_moment = λ t. same_moments shown disk new (j.any_moment t);
     fails = j.fails;
     calls = j.calls;
   }
-  refused new DiskFault j = record { loaded = λ t. tt; only = λ t. tt; is_open = tt; any_moment = λ t. same_moments shown disk new (j.any_moment t); fails = j.fails; calls = λ t u. tt }
-  refused new NoMemory j = record { loaded = λ t. tt; only = λ t. tt; is_open = tt; any_moment = λ t. same_moments shown disk new (j.any_moment t); fails = j.fails; calls = λ t u. tt }
+  refused new DiskFault j = record { loaded = λ t. tt; only = λ t. tt; takes = tt; any_moment = λ t. same_moments shown disk new (j.any_moment t); fails = j.fails; calls = λ t u. tt }
+  refused new NoMemory j = record { loaded = λ t. tt; only = λ t. tt; takes = tt; any_moment = λ t. same_moments shown disk new (j.any_moment t); fails = j.fails; calls = λ t u. tt }
 
   -- the journal was read
   module _ (journal : Journal D g) (v : Vec (Vec ℕ Global) Global) (j : JournalLoads told shown disk (load.Ready journal v)) where
@@ -182,14 +185,14 @@ module _ {D : Type 0} {g : _} (told : DiskTold) (shown : D → DiskShown) (disk 
           let same = seen_still t (not_short_stops (shown disk).seen items (tail_at journal) ends n s) in
           (inr (inl (record { items = items; tail = tail_at journal; ends = ends; number = n; stops = s; is_place = at })), same, durable t same);
       only = λ t k most l. folds_or_stops items k n (its_notes (shown disk).seen items (tail_at journal) (j.loaded t).0 k most l) s;
-      is_open = tt;
+      takes = tt;
       any_moment = λ t. same_moments shown disk journal.disk (j.any_moment t);
       fails = fails_as (λ fault. cc fault);
       calls = j.calls;
     }
 
     pub starved : LogLoads {D = D} {g = g} told shown disk (Refused journal.disk NoMemory)
-    starved = record { loaded = λ t. tt; only = λ t. tt; is_open = tt; any_moment = λ t. same_moments shown disk journal.disk (j.any_moment t); fails = fails_as (λ fault. cc fault); calls = λ t u. tt }
+    starved = record { loaded = λ t. tt; only = λ t. tt; takes = tt; any_moment = λ t. same_moments shown disk journal.disk (j.any_moment t); fails = fails_as (λ fault. cc fault); calls = λ t u. tt }
 
     -- a rule on the tail is broken
     pub crowded : (k : Kept) → AreNotes items k → (HasRoom k (tail_at journal) → ⊥) → LogLoads {D = D} {g = g} told shown disk (Refused journal.disk (NotJournal (tail_at journal)))
@@ -202,7 +205,7 @@ module _ {D : Type 0} {g : _} (told : DiskTold) (shown : D → DiskShown) (disk 
           let ends = (j.loaded t).0 in
           let same : other ≡ k = fold_once items other k (its_notes (shown disk).seen items (tail_at journal) ends other most l) are in
           breaks (subst (λ (i : Kept). HasRoom i (tail_at journal)) same (its_room (shown disk).seen items (tail_at journal) ends other most l));
-      is_open = tt;
+      takes = tt;
       any_moment = λ t. same_moments shown disk journal.disk (j.any_moment t);
       fails = fails_as (λ fault. cc fault);
       calls = j.calls;
@@ -229,7 +232,13 @@ module _ {D : Type 0} {g : _} (told : DiskTold) (shown : D → DiskShown) (disk 
               let ends = (j.loaded t).0 in
               let reached = its_reach (shown disk).seen items (tail_at journal) ends other most l in
               (fold_once items k other are (its_notes (shown disk).seen items (tail_at journal) ends other most l), omega (arith, ap tail_at same, ap start_at same, area_is shown journal items (j.loaded t).1, reached));
-          is_open = (ap is_closed same ∙ j.is_open.0, waits, subst (λ (i : Journal D g). HasRoom k (tail_at i)) (sym same) room);
+          takes = record {
+            is_open = ap is_closed same ∙ j.is_open.0;
+            waits = waits;
+            room = subst (λ (i : Journal D g). HasRoom k (tail_at i)) (sym same) room;
+            notes = are.notes;
+            folds = are.folds;
+          };
           any_moment = λ t. subst (λ (d : D). LeavesOnly (shown disk) (shown d) (IsOldOrSame (shown disk))) disk_same (same_moments shown disk journal.disk (j.any_moment t));
           fails = subst (λ (d : D). DiskFails told (shown disk) (shown d) ⊥) disk_same (fails_as (λ fault. fault));
           calls = λ t u. ap (λ (d : D). (shown d).trouble.calls) (sym disk_same) ∙ j.calls t u;

@@ -8,11 +8,14 @@ use Rattle.bcv_journal.specs.Layout.{EndsAt, Loads}
 use Rattle.bcv_journal.specs.Loaded.{load_calls}
 use Rattle.bcv_journal.specs.declared.fault.JournalFault.TheVariants.{NotJournal, DiskFault, NoMemory}
 use Rattle.bcv_model.specs.declared.kept.Kept.{Kept}
-use Rattle.bcv_model.specs.NoteRules.{HasRoom}
+use Rattle.bcv_model.specs.declared.note.Note.{Note}
+use Rattle.bcv_model.specs.NoteRules.{Folds, HasRoom}
+use Rattle.bcv_model.specs.Notes.{nothing_kept}
 use Rattle.bcv_notes.specs.KeptBy.{AreNotes, StopsAt}
 use Rattle.bcv_notes.specs.KeptNotes.{items_size}
 use Rattle.bcv_clientlog.specs.declared.load.LogLoad.{LogLoad}
 use Rattle.bcv_clientlog.specs.declared.load.LogLoad.TheVariants.{Ready, Refused}
+use Rattle.bcv_clientlog.specs.declared.log.ClientLog.{ClientLog}
 use Rattle.bcv_clientlog.specs.LogParts.{Holds, LoadsAs, is_shut, is_waiting, log_area, log_disk, log_tail}
 
 -- the disk that a load hands on or back
@@ -62,9 +65,18 @@ abbrev pub LoadFails : {D : Type 0} {g : _} → LogLoad D g → Type 0
 LoadFails (Ready log kept) = ⊥
 LoadFails (Refused disk fault) = fault ≡ DiskFault
 
--- whatever the disk, a log that was loaded takes notes, and has the room that what is kept needs
+-- the log takes notes and has the room that what is kept needs, and this is what some notes come to, each of which may
+-- stand where it stands
+pub record IsLoadedLog {D : Type 0} {g : _} (log : ClientLog D g) (kept : Kept) : Type 0 where
+  pub is_open : is_shut log ≡ false
+  pub waits : is_waiting log ≡ is_some kept.pending
+  pub room : HasRoom kept (log_tail log)
+  pub notes : List Note
+  pub folds : Folds nothing_kept notes kept
+
+-- whatever the disk, so is a log that was loaded
 abbrev pub TakesNotes : {D : Type 0} {g : _} → LogLoad D g → Type 0
-TakesNotes (Ready log kept) = (is_shut log ≡ false) × (is_waiting log ≡ is_some kept.pending) × HasRoom kept (log_tail log)
+TakesNotes (Ready log kept) = IsLoadedLog log kept
 TakesNotes (Refused disk fault) = Unit {0}
 
 -- the image was possible before, or loads as the file does
@@ -82,7 +94,7 @@ CountsLogLoad shown before (Refused disk NoMemory) = Unit {0}
 pub record LogLoads {D : Type 0} {g : _} (told : DiskTold) (shown : D → DiskShown) (disk : D) (result : LogLoad D g) : Type 0 where
   pub loaded : told.tells → LogGives shown (shown disk).seen result
   pub only : told.tells → GivesOnly (shown disk).seen result
-  pub is_open : TakesNotes result
+  pub takes : TakesNotes result
   pub any_moment : told.tells → LeavesOnly (shown disk) (shown (loaded_disk result)) (IsOldOrSame (shown disk))
   pub fails : DiskFails told (shown disk) (shown (loaded_disk result)) (LoadFails result)
   pub calls : told.tells → told.troubled → CountsLogLoad shown (shown disk) result

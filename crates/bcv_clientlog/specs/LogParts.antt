@@ -53,6 +53,10 @@ pub record LoadsAs (bytes : List ℕ) (k : Kept) (most : ℕ) : Type 0 where
   pub room : HasRoom k tail
   pub within : tail + items_size items ≤ most
 
+-- a law: bytes load as one thing
+abbrev pub LoadsOnce : Type 0
+LoadsOnce = (bytes : List ℕ) (a b : Kept) (most long : ℕ) → LoadsAs bytes a most → LoadsAs bytes b long → a ≡ b
+
 -- the image loads as what was kept, or as that with the first of these notes, with two of them, and so on
 abbrev pub LoadsUpTo : Kept → ℕ → List Note → List ℕ → Type 0
 LoadsUpTo k most [] image = LoadsAs image k most

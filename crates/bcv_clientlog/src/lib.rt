@@ -9,9 +9,11 @@
 #![tactic(auto)]
 
 mod compaction;
+mod laws;
 mod load;
 mod log;
 mod noting;
 
+pub use laws::loads_once;
 pub use load::LogLoad;
 pub use log::ClientLog;

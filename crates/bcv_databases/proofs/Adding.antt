@@ -119,5 +119,5 @@ module _ (c : Catalog) (db : List ℕ) (copy commit : Commit) (s : AreDatabases 
           is_note = ap (λ (o : Option Local). note_over db commit o (keyed known_name db c.known)) r.is_local;
           kept = ap (λ (xs : List Local). record { me = c.kept.me; locals = xs; pending = c.kept.pending }) (locals_are ∙ ap (λ (z : Commit). with_local_commit db z c.kept.locals) r.is_copy);
           known = sym (without_none known_name db c.known (known_none c db r.local s r.is_local));
-          views = subst (KeepsViews c.sets) (sym sets_are) (keeps_changed (with_commit (writes_of commit)) (commit_keeps (writes_of commit)) c.sets u.set (is_inside c.sets u.set has.0 has.1));
+          views = subst (KeepsViews c.sets) (sym sets_are) (keeps_changed (with_commit (writes_of commit)) (commit_keeps (writes_of commit)) (λ h. refl) c.sets u.set (is_inside c.sets u.set has.0 has.1));
         }

@@ -111,7 +111,7 @@ module _ (c : Catalog) (db : List ℕ) (f : FirstReady) (commit : Commit) (s : A
 
     first_views : KeepsViews c.sets (set c.sets f.place (Some g))
     first_views place h at =
-        (h, at_other c.sets f.place place (Some g) (λ same. let both : Some h ≡ None = sym at ∙ ap (set_at c.sets) same ∙ r.free in absurd cc) ∙ at, λ from to can. (can, refl))
+        (h, at_other c.sets f.place place (Some g) (λ same. let both : Some h ≡ None = sym at ∙ ap (set_at c.sets) same ∙ r.free in absurd cc) ∙ at, (λ from to can. (can, refl)), refl)
 
     pub first_adds : Adds c (with_parts c ls ks us (set c.sets f.place (Some g)) rooms) db commit
     first_adds = record {

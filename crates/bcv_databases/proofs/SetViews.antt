@@ -54,8 +54,8 @@ set_more l commit copy from h is same =
 -- ---- all sets
 
 -- a change of one set that keeps its views
-pub keeps_changed : (f : Held → Held) → ((h : Held) (from to : ℕ) → KeepsView h (f h) from to) → (sets : List (Option Held)) (place : ℕ) → place < length sets → KeepsViews sets (changed f place sets)
-keeps_changed f keeps sets place lt p h at = elim (cases_eq p place) [
-  | inl e ↦ (f h, ap (set_at (changed f place sets)) e ∙ at_same sets place (option_map f (set_at sets place)) lt ∙ ap (option_map f) (ap (set_at sets) (sym e) ∙ at), keeps h)
-  | inr other ↦ (h, at_other sets place p (option_map f (set_at sets place)) other ∙ at, λ from to can. (can, refl))
+pub keeps_changed : (f : Held → Held) → ((h : Held) (from to : ℕ) → KeepsView h (f h) from to) → ((h : Held) → (f h).page_size ≡ h.page_size) → (sets : List (Option Held)) (place : ℕ) → place < length sets → KeepsViews sets (changed f place sets)
+keeps_changed f keeps sized sets place lt p h at = elim (cases_eq p place) [
+  | inl e ↦ (f h, ap (set_at (changed f place sets)) e ∙ at_same sets place (option_map f (set_at sets place)) lt ∙ ap (option_map f) (ap (set_at sets) (sym e) ∙ at), keeps h, sized h)
+  | inr other ↦ (h, at_other sets place p (option_map f (set_at sets place)) other ∙ at, (λ from to can. (can, refl)), refl)
 ]

@@ -36,7 +36,7 @@ module _ (c : Catalog) (mid : List (Option Held)) (place : ℕ) (h : Held) (s : 
 
   pub opened_views : KeepsViews c.sets opened
   opened_views p g at =
-      (g, at_other mid place p (Some h) (λ e. let both : Some g ≡ None = sym at ∙ ap (set_at c.sets) e ∙ was_free in absurd cc) ∙ same p ∙ at, λ from to can. (can, refl))
+      (g, at_other mid place p (Some h) (λ e. let both : Some g ≡ None = sym at ∙ ap (set_at c.sets) e ∙ was_free in absurd cc) ∙ same p ∙ at, (λ from to can. (can, refl)), refl)
 
   pub opens : (page_size : ℕ) (rooms : Rooms) → h ≡ empty_set page_size → OpensSet c (record { kept = c.kept; known = c.known; uses = c.uses; sets = opened; rooms = rooms }) page_size place
   opens page_size rooms is = record {

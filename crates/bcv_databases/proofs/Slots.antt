@@ -49,7 +49,7 @@ put_back_or false f sets i o mid h g lt read is made =
 -- ---- views
 
 pub keeps_all : (sets : List (Option Held)) → KeepsViews sets sets
-keeps_all sets place h at = (h, at, λ from to can. (can, refl))
+keeps_all sets place h at = (h, at, (λ from to can. (can, refl)), refl)
 
 pub room_keeps : (c : Writes) (h : Held) (from to : ℕ) → KeepsView h (with_room c h) from to
 room_keeps c h from to can = (record { kept = can.kept; order = can.order; there = can.there }, refl)

@@ -54,11 +54,11 @@ pub record AreDatabases (c : Catalog) : Type 0 where
 
 -- ---- what a change keeps
 
--- each view that a set could be asked for is there as before
+-- each set stays, with its page size, and each view that it could be asked for is there as before
 abbrev pub KeepsViews : List (Option Held) → List (Option Held) → Type 0
 KeepsViews old new =
     (place : ℕ) (h : Held) → set_at old place ≡ Some h
-    → (g : Held) × (set_at new place ≡ Some g) × ((from to : ℕ) → KeepsView h g from to)
+    → (g : Held) × (set_at new place ≡ Some g) × ((from to : ℕ) → KeepsView h g from to) × (g.page_size ≡ h.page_size)
 
 -- nothing that a caller sees has changed
 pub record IsSame (old new : Catalog) : Type 0 where

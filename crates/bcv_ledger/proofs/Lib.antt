@@ -7,7 +7,8 @@ mod Reasons
 mod LocalEnds
 pub mod LocalLaws
 mod LocalSteps
-mod TableLaws
+pub mod TableLaws
 pub mod FitsLedger
 mod Named
 mod ResolveLaws
+mod LedgerLoaded

@@ -37,13 +37,13 @@ not_true false denied = refl
 -- ---- the databases
 
 pub same_views : (sets : List (Option Held)) → KeepsViews sets sets
-same_views sets place h at = (h, at, λ from to can. (can, refl))
+same_views sets place h at = (h, at, (λ from to can. (can, refl)), refl)
 
 pub views_then : (a b c : List (Option Held)) → KeepsViews a b → KeepsViews b c → KeepsViews a c
 views_then a b c one two place h at =
     let p = one place h at in
     let q = two place p.0 p.1 in
-    (q.0, q.1, λ from to can. let x = p.2 from to can in let y = q.2 from to x.0 in (y.0, y.1 ∙ x.1))
+    (q.0, q.1, (λ from to can. let x = p.2 from to can in let y = q.2 from to x.0 in (y.0, y.1 ∙ x.1)), q.3 ∙ p.3)
 
 -- after a change of its own each way, what is kept, known and seen
 pub kept_where : (result : Noted) (x : Note) (old new : Catalog) → EndsWhere (stands result) old new x → new.kept ≡ kept_ended (noted_fault result) old.kept x

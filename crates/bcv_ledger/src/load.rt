@@ -1,4 +1,4 @@
-//! A ledger over a log, and the first note of a new one.
+//! A ledger that is loaded or stands over a log, and the first note of a new one.
 ghost use Rattle.std.specs.Prelude.{◌≡◌, ◌≢◌, ◌+◌, ◌≤◌, ◌^◌, [], true, IfOk, is_some};
 ghost use Rattle.bcv_clientlog.specs.LogParts.{is_waiting, log_tail};
 ghost use Rattle.bcv_databases.specs.Sound.{AreLoaded};
@@ -9,7 +9,7 @@ ghost use Rattle.bcv_ledger.specs.LedgerLoads.{NamedWhere};
 use crate::ledger::Ledger;
 use crate::where_noted::stands;
 use bcv_base::Id16;
-use bcv_clientlog::ClientLog;
+use bcv_clientlog::{ClientLog, LogLoad};
 use bcv_databases::Databases;
 use bcv_disk::Disk;
 use bcv_journal::{JournalFault, Noted};
@@ -25,7 +25,18 @@ pub enum LedgerLoad<D: Disk> {
 }
 
 impl<D: Disk> Ledger<D> {
-    ghost use Rattle.bcv_ledger.specs.LedgerLoads.{IsOver, NotesMe};
+    ghost use Rattle.bcv_ledger.specs.LedgerLoads.{IsOver, LedgerLoads, NotesMe};
+
+    /// Loads the ledger of a disk: its log, and the databases that the log's notes come to. No database without commits is
+    /// known yet. Where the disk holds no log, or the disk fails, or memory is missing, the disk comes back.
+    pub fn load(alloc: Global, disk: D) -> LedgerLoad<D>
+        ensures { LedgerLoads D.told D.shown disk result }
+    {
+        match ClientLog::load(alloc, disk) {
+            LogLoad::Ready(log, kept) => Ledger::over(alloc, log, kept),
+            LogLoad::Refused(disk, fault) => LedgerLoad::Refused(disk, fault),
+        }
+    }
 
     /// A ledger over a log, of which this is kept. No database without commits is known yet. Where memory is missing the disk
     /// comes back.

@@ -47,7 +47,7 @@ returns-clause-same c =
     let cat : Catalog = record { kept = i.kept; known = i.known.items; uses = i.uses.items; sets = i.sets.items; rooms = record { known = vec_capacity i.known; uses = vec_capacity i.uses; commits = vec_capacity i.spare } } in
     let used : keyed use_name c.args.db.now i.uses.items ≡ Some c.in-Some.used.now = sym (c.in-Some.ensures ∙ ap (keyed use_name c.args.db.now) c.deref.ensures.value) in
     same_over c.args.self.now _ _ c.self.view_is refl refl
-    (subst (KeepsViews i.sets.items) (sym c.in_ok-reserve_in.ensures) (keeps_changed (with_room w) (room_keeps w) i.sets.items c.in-Some.used.now.set (use_inside cat c.args.db.now c.in-Some.used.now c.self.invariant.0 used)))
+    (subst (KeepsViews i.sets.items) (sym c.in_ok-reserve_in.ensures) (keeps_changed (with_room w) (room_keeps w) (λ h. refl) i.sets.items c.in-Some.used.now.set (use_inside cat c.args.db.now c.in-Some.used.now c.self.invariant.0 used)))
 
 pub returns-clause-ready : goal.returns-clause-ready
 returns-clause-ready c =

@@ -1,19 +1,15 @@
-use Rattle.std.proofs.Common.{Bool, inr, refl, subst}
+use Rattle.std.proofs.Common.{Bool, inr, subst}
 use Rattle.bcv_clientlog.specs.LogParts.{is_waiting}
-use Rattle.bcv_model.specs.declared.note.Note.TheVariants as note
-use Rattle.bcv_model.specs.Notes.{nothing_kept}
 use Rattle.bcv_ledger.specs.LedgerLoads.{NamedWhere}
-use Rattle.bcv_ledger.proofs.LedgerNoted.{tried}
 use Rattle.bcv_ledger.proofs.Named.{waits_not}
 use Rattle.bcv_ledger.proofs.ledger.Ledger.me.Goals as goal
 
 pub returns-clause-notes : goal.returns-clause-notes
 returns-clause-notes g c =
-    let d = g.D.Disk in
     let old = c.args.self.now in
     let id = c.args.id in
     inr (record {
-      tried = tried d.told d.shown g.met.D.Disk.counts_now old.log c.me-noted.new.self nothing_kept (note.Me id) c.me-noted.result c.span-2.ensures.leaves refl c.me-noted.ensures.notes;
+      notes = c.me-noted.ensures.notes;
       databases = subst (λ (b : Bool). NamedWhere b old.databases c.name_where.new.databases id) c.stands.ensures c.name_where.ensures;
     })
 
