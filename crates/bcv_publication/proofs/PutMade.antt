@@ -1,5 +1,5 @@
 -- What a put of a manifest appends over a sound log, in the machine's words.
-use Rattle.std.proofs.Common.{◌≡◌, ◌∙◌, ◌+◌, ◌||◌, ℕ, Bool, true, false, not, cond, List, [], ◌∷◌, ◌++◌, append-nil, length, length-append, map, filter, Option, Some, None, is_some, Result, refl, sym, ap, subst, arith}
+use Rattle.std.proofs.Common.{◌≡◌, ◌∙◌, ℕ, true, List, [], ◌∷◌, ◌++◌, append-nil, Option, Some, None, Result, sym, ap}
 use Rattle.std.specs.List.{AllByRecursion}
 use Rattle.bcv_base.specs.declared.id.Id16.{Id16}
 use Rattle.bcv_base.specs.declared.log.Entry.{Entry}
@@ -9,8 +9,7 @@ use Rattle.bcv_base.specs.declared.object.ObjName.TheVariants as object
 use Rattle.bcv_base.specs.Edits as edits
 use Rattle.bcv_base.specs.History.{Item, Published, as_read, history_of, last_of}
 use Rattle.bcv_base.specs.HistoryLaws.{history_of-more}
-use Rattle.bcv_base.specs.Joined.{database_of}
-use Rattle.bcv_base.specs.Version.{Database, Version}
+use Rattle.bcv_base.specs.Version.{Version}
 use Rattle.bcv_base.specs.Versions.{version_of, versions_of}
 use Rattle.bcv_dbmap.specs.declared.plan.EditPlan.{EditPlan}
 use Rattle.bcv_dbmap.specs.Applied.{applied, edit_of, first_manifest}

@@ -1,10 +1,10 @@
 -- The put of a publishing task is the machine's, for each kind of task.
-use Rattle.std.proofs.Common.{◌≡◌, ◌≢◌, ◌∙◌, ◌+◌, ◌<◌, ◌≤◌, ◌^◌, ◌==◌, ℕ, zero, suc, Bool, true, false, cond, List, [], ◌∷◌, ◌++◌, length, length-append, map, take, Option, Some, None, IfSome, IsSome, MatchOption, is_some, is_none, refl, sym, ap, subst, eqb-true, arith}
+use Rattle.std.proofs.Common.{◌≡◌, ◌∙◌, ◌+◌, ◌<◌, ◌≤◌, ◌^◌, ◌==◌, ℕ, suc, Bool, true, false, List, [], ◌∷◌, ◌++◌, length, length-append, map, take, Option, Some, None, IfSome, IsSome, MatchOption, is_some, refl, sym, ap, subst, arith}
 use Rattle.std.proofs.lemmas.Bool.{eq-eqb, ne_eqb}
 use Rattle.std.proofs.lemmas.List.{length-take}
 use Rattle.std.proofs.lemmas.Option.{same_Some}
 use Rattle.std.specs.Prelude.{min}
-use Rattle.std.specs.Cmp.{first_so, second_so}
+use Rattle.std.specs.Cmp.{first_so}
 use Rattle.std.specs.List.{AllByRecursion}
 use Rattle.std.specs.Option.{option_map}
 use Rattle.bcv_base.specs.declared.id.Id16.{Id16}
@@ -13,13 +13,12 @@ use Rattle.bcv_base.specs.declared.manifest.Manifest.{Manifest}
 use Rattle.bcv_base.specs.declared.seen.Latest.{Latest}
 use Rattle.bcv_base.specs.Edits as edits
 use Rattle.bcv_base.specs.History.{Item, Published, history_of, last_of}
-use Rattle.bcv_base.specs.HistoryLaws.{IsLast, id_eq-self, last_is}
+use Rattle.bcv_base.specs.HistoryLaws.{id_eq-self, last_is}
 use Rattle.bcv_base.specs.Ids.{IsId, id_eq}
 use Rattle.bcv_base.specs.Image.{Page, Writes, view_image}
 use Rattle.bcv_base.specs.Joined.{database_of, joined}
-use Rattle.bcv_base.specs.Keyed.{keyed}
 use Rattle.bcv_base.specs.ManifestRules.{MeetsEntryRules}
-use Rattle.bcv_base.specs.Version.{Database, Version}
+use Rattle.bcv_base.specs.Version.{Database}
 use Rattle.bcv_base.specs.Versions.{version_of, versions_of}
 use Rattle.bcv_base.specs.Views.{view_size}
 use Rattle.bcv_cache.specs.Entry as cache
@@ -37,10 +36,7 @@ use Rattle.bcv_machine.specs.ManifestPut as machine
 use Rattle.bcv_machine.specs.State as m
 use Rattle.bcv_model.specs.declared.kept.Kept.{Kept}
 use Rattle.bcv_model.specs.declared.kept.Local.{Local}
-use Rattle.bcv_model.specs.declared.kept.PendingPub.{PendingPub}
-use Rattle.bcv_model.specs.declared.kept.Uploading.{Uploading}
 use Rattle.bcv_model.specs.declared.note.Note.TheVariants as note
-use Rattle.bcv_model.specs.declared.reply.Reply.{Reply}
 use Rattle.bcv_model.specs.declared.reply.Reply.TheVariants as reply
 use Rattle.bcv_model.specs.Commits.{writes_of}
 use Rattle.bcv_model.specs.NoteRules.{MayUpload}
@@ -51,27 +47,25 @@ use Rattle.bcv_publish.specs.ManifestPut as publishing
 use Rattle.bcv_publish.specs.State as publish
 use Rattle.bcv_tasks.specs.declared.publish_task.PublishTask.{PublishTask}
 use Rattle.bcv_tasks.specs.declared.publish_task.PublishTask.TheVariants as task
-use Rattle.bcv_tasks.specs.declared.put_answer.PutAnswer.{PutAnswer}
 use Rattle.bcv_tasks.specs.declared.put_answer.PutAnswer.TheVariants as answer
-use Rattle.bcv_tasks.specs.State.{IsRunning, brought, is_ready, latest_of, left_of, made_over, pending_of}
-use Rattle.bcv_tasks.specs.TaskPut.{Appends, IsPassed, IsStillLast, IsTurnedDown, PutLeaves, number_after, with_refused}
+use Rattle.bcv_tasks.specs.State.{IsRunning, brought, latest_of, left_of, made_over, pending_of}
+use Rattle.bcv_tasks.specs.TaskPut.{IsPassed, IsStillLast, number_after, with_refused}
 use Rattle.bcv_upload.specs.BlockText.{IsViewOf}
 use Rattle.bcv_upload.specs.State as upload
 use Rattle.bcv_upload.specs.UploadPut.{view_over}
 use Rattle.bcv_upload.proofs.Tasks.{any_ready}
 use Rattle.bcv_upload.proofs.ViewPages.{uploaded_is_the_view}
 use Rattle.bcv_clientstate.specs.BaseLaws.{FitsLocal, FitsUpload}
-use Rattle.bcv_clientstate.specs.Fits.{Fits, FitsJob, TakesFrom}
+use Rattle.bcv_clientstate.specs.Fits.{TakesFrom}
 use Rattle.bcv_clientstate.specs.Parts.{Parts, mine_of}
-use Rattle.bcv_clientstate.specs.SeenClient.{Free, kind_of, seen_begun, seen_txn}
+use Rattle.bcv_clientstate.specs.SeenClient.{Free, kind_of, seen_txn}
 use Rattle.bcv_clientstate.specs.SeenContainer.{HasBase, container_of}
-use Rattle.bcv_clientstate.specs.SeenKept.{seen_upload}
 use Rattle.bcv_clientstate.proofs.Bases.{base_block, base_database, pages_len}
 use Rattle.bcv_clientstate.proofs.Growth.{leaves_client}
 use Rattle.bcv_clientstate.proofs.KnownLaws.{known_is_known}
 use Rattle.bcv_clientstate.proofs.PutLaws.{last_is_last, none_is_none}
-use Rattle.bcv_publication.specs.PutSides.{Appended, AnswersDone, Tried, waiting}
-use Rattle.bcv_publication.specs.TaskSides.{DoneIsAnswered, DoneIsKnown, IsLastAnswer, MayStep, PassedIsRefused, RefusalIsAnswered, RefusedIsTriedAgain, StillIsNext, TaskIsAppended, TaskIsTried, done_answer, job_of, number_read, seen_task, with_job}
+use Rattle.bcv_publication.specs.PutSides.{Appended, waiting}
+use Rattle.bcv_publication.specs.TaskSides.{DoneIsAnswered, DoneIsKnown, MayStep, PassedIsRefused, RefusalIsAnswered, RefusedIsTriedAgain, StillIsNext, TaskIsAppended, TaskIsTried, job_of, number_read, seen_task, with_job}
 use Rattle.bcv_publication.proofs.PutMade.{appended_history, container_is, first_after, first_next, locals_stay, version_is}
 
 -- ---- the kinds of a copy

@@ -1,19 +1,12 @@
 -- What a step at a put does, at each of its exits.
-use Rattle.std.proofs.Common.{◌≡◌, ◌≢◌, ◌∙◌, ◌≤◌, ◌<◌, ◌^◌, ℕ, Bool, true, false, List, [], ◌∷◌, length, Option, Some, None, IfSome, inl, inr, refl, sym, ap, subst, arith}
+use Rattle.std.proofs.Common.{◌≡◌, ◌≢◌, ◌∙◌, ◌<◌, ◌^◌, ℕ, Bool, true, false, List, length, Option, Some, None, inl, inr, refl, sym, ap, subst, arith}
 use Rattle.std.proofs.lemmas.Option.{same_Some}
 use Rattle.bcv_base.specs.declared.id.Id16.{Id16}
-use Rattle.bcv_base.specs.declared.log.Entry.{Entry}
-use Rattle.bcv_base.specs.declared.manifest.Manifest.{Manifest}
 use Rattle.bcv_base.specs.declared.seen.Latest.{Latest}
-use Rattle.bcv_base.specs.Faults.{Rose}
-use Rattle.bcv_base.specs.History.{history_of}
-use Rattle.bcv_base.specs.Ids.{has_id}
 use Rattle.bcv_base.specs.Image.{Writes}
 use Rattle.bcv_cache.specs.Entry as cache
 use Rattle.bcv_clientlog.specs.LogParts.{is_shut, log_disk}
 use Rattle.bcv_dbmap.specs.Honest.{GrewHonestly}
-use Rattle.bcv_dbmap.specs.Kept.{IsKept}
-use Rattle.bcv_dbmap.specs.Past.{has_version}
 use Rattle.bcv_disk.specs.Calls.{DiskFails-as, DiskFails-none, DiskFails-then}
 use Rattle.bcv_disk.specs.DiskCalls.{DiskFails}
 use Rattle.bcv_disk.specs.DiskShown.{DiskShown, DiskTold}
@@ -31,59 +24,18 @@ use Rattle.bcv_tasks.specs.declared.publish_task.PublishTask.TheVariants as task
 use Rattle.bcv_tasks.specs.declared.put_answer.PutAnswer.{PutAnswer}
 use Rattle.bcv_tasks.specs.declared.put_answer.PutAnswer.TheVariants as answer
 use Rattle.bcv_tasks.specs.State.{IsRunning, id_of, is_ready, latest_of, left_of, pending_of}
-use Rattle.bcv_tasks.specs.TaskPut.{MayPut, PutLeaves, PutsTask, TaskPuts}
+use Rattle.bcv_tasks.specs.TaskPut.{PutLeaves, PutsTask, TaskPuts}
 use Rattle.bcv_clientstate.specs.KnownLaws.{known_of}
 use Rattle.bcv_clientstate.specs.Parts.{Parts, mine_of, with_ledger}
-use Rattle.bcv_databases.specs.declared.known.Known.{Known}
 use Rattle.bcv_ledger.specs.declared.ledger.Ledger.{Ledger}
 use Rattle.bcv_ledger.specs.Begins.{Begins}
 use Rattle.bcv_ledger.specs.LedgerNotes.{parts_in}
 use Rattle.bcv_ledger.specs.NoteEnds.{IsNoteFault, NoteEnds, ShutAfter}
-use Rattle.bcv_publication.specs.TaskSides.{MayStep, done_answer, job_of, number_read, seen_task, with_job}
-use Rattle.bcv_publication.proofs.TaskSides.{refusal_is_answered}
-use Rattle.bcv_publisher.specs.PutStep.{Makes, PutStep, PutStepLeaves, PutSteps, StepSays, UnknownCause, rest_of}
-use Rattle.bcv_publisher.specs.Settles.{Publishes, Settles, Voids, reply_by}
+use Rattle.bcv_publication.specs.TaskSides.{MayStep, done_answer, job_of, seen_task, with_job}
+use Rattle.bcv_publisher.specs.PutStep.{Makes, PutStep, PutStepLeaves, StepSays, UnknownCause, rest_of}
+use Rattle.bcv_publisher.specs.Settles.{Settles, reply_by}
+use Rattle.bcv_publisher.proofs.TaskPuts.{may_put}
 use Rattle.bcv_publisher.proofs.PutEnds.{done_with, id_with, latest_with, step_contended, step_contended_fault, step_done, step_done_fault, step_refused, step_there, step_there_fault, step_unbegun, step_unknown}
-
--- a task may be put by a client that stands over a log
-may_put : (log : List Entry) (p : Parts) (entries : List cache.Entry) (n : ℕ) (view : List Writes) (t : PublishTask) → MayStep log p entries n view t
-    → MayPut (mine_of (with_job n (job_of view t) p)) log view t
-may_put log p entries n view (task.Create c) may =
-    let job = may.fits.tasks.0 in
-    record {
-      kept = subst (λ (o : Option Latest). IfSome o (IsKept log)) (sym may.running.waits) tt;
-      writer = subst (λ (i : Id16). has_id i (mine_of (with_job n (job_of view (task.Create c)) p)) ≡ true) (sym may.writer) job.3;
-      id = job.2;
-      fresh = job.4;
-      owns = tt;
-    }
-may_put log p entries n view (task.Copy id s) may =
-    let job = may.fits.tasks.0 in
-    record {
-      kept = job.1.read;
-      writer = subst (λ (i : Id16). has_id i (mine_of (with_job n (job_of view (task.Copy id s)) p)) ≡ true) (sym job.1.same_writer) job.1.writer_is_mine;
-      id = subst (λ (i : Id16). has_id i (mine_of (with_job n (job_of view (task.Copy id s)) p)) ≡ true) (sym may.running.0) job.1.is_mine;
-      fresh = subst (λ (i : Id16). has_version (history_of log) i ≡ false) (sym may.running.0) job.1.fresh;
-      owns = job.2;
-    }
-may_put log p entries n view (task.Upload id s) may =
-    let job = may.fits.tasks.0 in
-    record {
-      kept = job.1.read;
-      writer = subst (λ (i : Id16). has_id i (mine_of (with_job n (job_of view (task.Upload id s)) p)) ≡ true) (sym job.1.same_writer) job.1.writer_is_mine;
-      id = subst (λ (i : Id16). has_id i (mine_of (with_job n (job_of view (task.Upload id s)) p)) ≡ true) (sym may.running.0) job.1.is_mine;
-      fresh = subst (λ (i : Id16). has_version (history_of log) i ≡ false) (sym may.running.0) job.1.fresh;
-      owns = job.2;
-    }
-may_put log p entries n view (task.Cleanup id s) may =
-    let job = may.fits.tasks.0 in
-    record {
-      kept = job.1.read;
-      writer = subst (λ (i : Id16). has_id i (mine_of (with_job n (job_of view (task.Cleanup id s)) p)) ≡ true) (sym job.1.same_writer) job.1.writer_is_mine;
-      id = subst (λ (i : Id16). has_id i (mine_of (with_job n (job_of view (task.Cleanup id s)) p)) ≡ true) (sym may.running.0) job.1.is_mine;
-      fresh = subst (λ (i : Id16). has_version (history_of log) i ≡ false) (sym may.running.0) job.1.fresh;
-      owns = job.2;
-    }
 
 -- ---- replies
 

@@ -1,9 +1,7 @@
 -- The step of a publication at its put is the machine's, whatever fails.
-use Rattle.std.proofs.Common.{◌≡◌, ◌≢◌, ◌∙◌, ◌+◌, ◌*◌, ◌^◌, ◌<◌, ◌≤◌, ◌==◌, ℕ, Bool, true, false, cond, List, [], ◌∷◌, ◌++◌, append-nil, length, length-append, Option, Some, None, is_some, IsSome, IfSome, refl, sym, ap, subst, eqb-true, arith}
+use Rattle.std.proofs.Common.{◌≡◌, ◌≢◌, ◌∙◌, ◌+◌, ◌^◌, ◌<◌, ◌==◌, ℕ, Bool, true, false, cond, List, [], ◌∷◌, ◌++◌, append-nil, length, length-append, Option, Some, None, is_some, refl, sym, ap, subst, eqb-true, arith}
 use Rattle.std.proofs.lemmas.Bool.{eq-eqb, ne_eqb}
-use Rattle.std.proofs.lemmas.Option.{same_Some}
 use Rattle.std.specs.Cmp.{first_so, second_so}
-use Rattle.std.specs.List.{AllByRecursion}
 use Rattle.bcv_base.specs.declared.id.Id16.{Id16}
 use Rattle.bcv_base.specs.declared.log.Entry.{Entry}
 use Rattle.bcv_base.specs.declared.manifest.Manifest.{Manifest}
@@ -12,7 +10,6 @@ use Rattle.bcv_base.specs.declared.outcome.Outcome.TheVariants as outcome
 use Rattle.bcv_base.specs.declared.seen.Latest.{Latest}
 use Rattle.bcv_base.specs.Faults.{Rose}
 use Rattle.bcv_base.specs.History.{Item, history_of, last_of}
-use Rattle.bcv_base.specs.Ids.{IsId, has_id}
 use Rattle.bcv_base.specs.Image.{Writes}
 use Rattle.bcv_base.specs.Version.{Version}
 use Rattle.bcv_base.specs.Versions.{version_of, versions_of}
@@ -20,9 +17,7 @@ use Rattle.bcv_cache.specs.Entry as cache
 use Rattle.bcv_cleanup.specs.State as cleanup
 use Rattle.bcv_clientlog.specs.LogParts.{is_shut}
 use Rattle.bcv_dbcopy.specs.State as copy
-use Rattle.bcv_dbmap.specs.Growth.{AreLawful}
 use Rattle.bcv_dbmap.specs.RequestGrowth.{RequestGrowth}
-use Rattle.bcv_dbmap.specs.Sound.{Sound}
 use Rattle.bcv_dbmap.proofs.OthersLaws.{others_keep_sound}
 use Rattle.bcv_disk.specs.DiskShown.{DiskShown, DiskTold}
 use Rattle.bcv_machine.specs.ManifestPut.{IsNext, IsRefused, PutsManifest, is_last_try, last_refusal, tried_again}
@@ -40,11 +35,10 @@ use Rattle.bcv_tasks.specs.declared.publish_task.PublishTask.{PublishTask}
 use Rattle.bcv_tasks.specs.declared.publish_task.PublishTask.TheVariants as task
 use Rattle.bcv_tasks.specs.declared.put_answer.PutAnswer.{PutAnswer}
 use Rattle.bcv_tasks.specs.declared.put_answer.PutAnswer.TheVariants as answer
-use Rattle.bcv_tasks.specs.State.{IsRunning, brought, id_of, is_ready, latest_of, left_of, pending_of, publish_of, refused_of, with_publish}
-use Rattle.bcv_tasks.specs.TaskPut.{Appends, AnswersPut, IsPassed, IsStillLast, MayPut, PutLeaves, TaskPuts, number_after, with_published}
+use Rattle.bcv_tasks.specs.State.{IsRunning, id_of, is_ready, latest_of, left_of, pending_of, with_publish}
+use Rattle.bcv_tasks.specs.TaskPut.{Appends, AnswersPut, IsPassed, IsStillLast, PutLeaves, TaskPuts}
 use Rattle.bcv_publish.specs.State as publish
 use Rattle.bcv_upload.specs.State as upload
-use Rattle.bcv_clientstate.specs.Fits.{Fits}
 use Rattle.bcv_clientstate.specs.Journaled.{Journaled, free_failed, free_noted}
 use Rattle.bcv_clientstate.specs.KnownLaws.{known_of}
 use Rattle.bcv_clientstate.specs.Parts.{Parts, mine_of, with_ledger}
@@ -53,7 +47,7 @@ use Rattle.bcv_clientstate.specs.SeenContainer.{container_of}
 use Rattle.bcv_clientstate.proofs.Growth.{grows}
 use Rattle.bcv_databases.specs.declared.known.Known.{Known}
 use Rattle.bcv_ledger.specs.declared.ledger.Ledger.{Ledger}
-use Rattle.bcv_ledger.specs.Begins.{BeginGoes, Begins, WaitsFor, free_intended, free_untried}
+use Rattle.bcv_ledger.specs.Begins.{BeginGoes, Begins, free_intended, free_untried}
 use Rattle.bcv_ledger.specs.LedgerNotes.{parts_in}
 use Rattle.bcv_ledger.specs.NoteEnds.{EndGoes, NoteEnds, ShutAfter}
 use Rattle.bcv_publication.specs.PutExits.{PutsTo}
@@ -62,7 +56,6 @@ use Rattle.bcv_publication.specs.TaskSides.{IsLastAnswer, MayStep, done_answer, 
 use Rattle.bcv_publication.proofs.PutExits.{done_meets_fault, intent_meets_fault, intent_meets_full, put_failed, put_is_done, put_is_lost, put_is_refused, put_is_void, refusal_is_lost, void_meets_fault}
 use Rattle.bcv_publication.proofs.TaskSides.{done_is_answered, done_is_known, passed_is_refused, refusal_is_answered, refused_is_tried_again, still_is_next, task_is_appended, task_is_tried}
 use Rattle.bcv_publisher.specs.PutStep.{Armed, StepGoes, StepSays, version_added}
-use Rattle.bcv_publisher.specs.Settles.{Publishes, Voids}
 
 -- ---- parts and tasks
 
@@ -109,23 +102,23 @@ latest_with (task.Cleanup id s) q b = refl
 
 -- ---- answers
 
-record WasPublished (n : ℕ) (o : Outcome) (number : Option ℕ) (last : Option Manifest) (read : Option Latest) : Type 0 where
-  done : o ≡ outcome.Ok
-  is : number ≡ Some n
-  still : IsStillLast last read
+pub record WasPublished (n : ℕ) (o : Outcome) (number : Option ℕ) (last : Option Manifest) (read : Option Latest) : Type 0 where
+  pub done : o ≡ outcome.Ok
+  pub is : number ≡ Some n
+  pub still : IsStillLast last read
 
-was_published : (n : ℕ) (o : Outcome) (number : Option ℕ) (last : Option Manifest) (read : Option Latest) → AnswersPut (answer.Published n) o number last read → WasPublished n o number last read
+pub was_published : (n : ℕ) (o : Outcome) (number : Option ℕ) (last : Option Manifest) (read : Option Latest) → AnswersPut (answer.Published n) o number last read → WasPublished n o number last read
 was_published n outcome.Ok (Some k) last read h = record { done = refl; is = ap Some (sym h.0); still = h.1 }
 was_published n outcome.Ok None last read h = absurd h
 was_published n outcome.Fail number last read h = absurd h
 was_published n outcome.Lost number last read h = absurd h
 
-record WasPassed (o : Outcome) (number : Option ℕ) (last : Option Manifest) (read : Option Latest) : Type 0 where
-  done : o ≡ outcome.Ok
-  none : number ≡ None
-  passed : IsPassed last read
+pub record WasPassed (o : Outcome) (number : Option ℕ) (last : Option Manifest) (read : Option Latest) : Type 0 where
+  pub done : o ≡ outcome.Ok
+  pub none : number ≡ None
+  pub passed : IsPassed last read
 
-was_refused : (o : Outcome) (number : Option ℕ) (last : Option Manifest) (read : Option Latest) → AnswersPut answer.Refused o number last read → WasPassed o number last read
+pub was_refused : (o : Outcome) (number : Option ℕ) (last : Option Manifest) (read : Option Latest) → AnswersPut answer.Refused o number last read → WasPassed o number last read
 was_refused outcome.Ok None last read h = record { done = refl; none = refl; passed = h }
 was_refused outcome.Ok (Some k) last read h = absurd h
 was_refused outcome.Fail number last read h = absurd h

@@ -1,2 +1,9 @@
+pub mod PollStep
+pub mod PutNotes
 pub mod PutStep
+pub mod ResolveStep
 pub mod Settles
+pub mod WorkEnds
+pub mod WorkStep
+pub mod ReadsBefore
+pub mod StepNotes

@@ -3,6 +3,7 @@ ghost use Rattle.std.specs.Prelude.{◌≡◌, true, false, IfSome};
 ghost use Rattle.bcv_clientlog.specs.LogParts.{is_shut};
 ghost use Rattle.bcv_databases.specs.Sound.{CanUpload};
 ghost use Rattle.bcv_ledger.specs.Begins.{WaitsFor};
+ghost use Rattle.bcv_publisher.specs.PutNotes.{PutNotes};
 ghost use Rattle.bcv_publisher.specs.PutStep.{PutStep};
 ghost use Rattle.bcv_tasks.specs.State.{IsRunning, is_ready, pending_of, upload_of};
 
@@ -30,8 +31,10 @@ pub fn put_step<D: Disk, S: Store>(
     requires waits { WaitsFor ledger.old.databases.kept.pending (pending_of taken task.old) }
     requires upload { IfSome (upload_of taken task.old) (CanUpload ledger.old.databases.kept.locals) }
     requires is_open { is_shut ledger.old.log ≡ false }
-    ensures { PutStep D.told D.shown S.told (S.shown store.old) (S.shown store.new)
+    ensures puts { PutStep D.told D.shown S.told (S.shown store.old) (S.shown store.new)
         ledger.old ledger.new taken task.old moment result task.new }
+    ensures notes { PutNotes D.told D.shown S.told (S.shown store.old) (S.shown store.new)
+        ledger.old ledger.new taken task.old result task.new }
 {
     let Ok(pending) = task.pending(alloc, taken) else {
         return Reply::NoMemory;
@@ -40,5 +43,7 @@ pub fn put_step<D: Disk, S: Store>(
         return fault;
     }
     let answer = task.put(alloc, store, moment);
-    settle(alloc, ledger, task, answer)
+    let reply = settle(alloc, ledger, task, answer);
+    let _ = ledger.databases.kept();
+    reply
 }

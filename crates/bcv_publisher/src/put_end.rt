@@ -62,7 +62,7 @@ fn done_answer(task: &PublishTask, number: u64) -> Reply
 }
 
 // The fault, or else this reply.
-fn reply_by(fault: Option<Reply>, reply: Reply) -> Reply
+pub(crate) fn reply_by(fault: Option<Reply>, reply: Reply) -> Reply
     ensures { result ≡ reply_by fault reply }
 {
     match fault {
