@@ -1,0 +1,6 @@
+mod SeenFits
+mod Unnamed
+mod CameUp
+mod ComesAgain
+mod StaysDown
+mod NamedClient

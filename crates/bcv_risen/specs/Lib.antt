@@ -1,0 +1,5 @@
+pub mod SeenBases
+pub mod Naming
+pub mod Rises
+pub mod RisenSides
+pub mod DownLaws
