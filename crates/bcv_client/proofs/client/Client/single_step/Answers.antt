@@ -1,0 +1,81 @@
+use Rattle.std.proofs.Common.{◌≡◌, false, true, refl, subst, sym, ap}
+use Rattle.bcv_publisher.specs.PollStep.{IsReadForm}
+use Rattle.bcv_client.specs.ClientForm.{JobInForm}
+use Rattle.bcv_client.specs.Steps.{EndsJob}
+use Rattle.bcv_client.specs.TaskTaken.{CanStep, is_single}
+use Rattle.bcv_client.specs.declared.job.Job.{Job}
+use Rattle.bcv_client.specs.declared.job.Job.TheVariants as job
+use Rattle.bcv_client.proofs.PollForm.{read_still}
+use Rattle.bcv_client.proofs.client.Client.single_step.Goals as goal
+
+pub fetch-requires-clause-form : goal.fetch-requires-clause-form
+fetch-requires-clause-form g c = c.requires.form
+
+pub fetch-requires-clause-page : goal.fetch-requires-clause-page
+fetch-requires-clause-page g c = rw c.in-Fetch.is at c.requires.can.form
+
+pub poll-requires-clause-form : goal.poll-requires-clause-form
+poll-requires-clause-form g c = c.requires.form
+
+pub poll-requires-clause-read : goal.poll-requires-clause-read
+poll-requires-clause-read g c = c.requires.read
+
+pub resolve-requires-clause-form : goal.resolve-requires-clause-form
+resolve-requires-clause-form g c = c.requires.form
+
+pub resolve-requires-clause-pending : goal.resolve-requires-clause-pending
+resolve-requires-clause-pending g c = rw c.in-Resolve.is at c.requires.can.form
+
+pub resolve-requires-clause-is_open : goal.resolve-requires-clause-is_open
+resolve-requires-clause-is_open g c = (let can : CanStep c.args.self.now job.Resolve = rw c.in-Resolve.is at c.requires.can in can.is_open refl)
+
+pub resolve-requires-clause-alone : goal.resolve-requires-clause-alone
+resolve-requires-clause-alone g c = (let can : CanStep c.args.self.now job.Resolve = rw c.in-Resolve.is at c.requires.can in can.alone refl)
+
+pub unreachable-requires : goal.unreachable-requires
+unreachable-requires g c = (let e : false ≡ true = rw c.in-Publish.is at c.requires.single in absurd (cc))
+
+pub unreachable-unreachable : goal.unreachable-unreachable
+unreachable-unreachable g c = (let e : false ≡ true = rw c.in-Publish.is at c.requires.single in absurd (cc))
+
+pub returns-in-Fetch-clause-form : goal.returns-in-Fetch-clause-form
+returns-in-Fetch-clause-form g c = c.fetch.ensures.form
+
+pub returns-in-Fetch-clause-read : goal.returns-in-Fetch-clause-read
+returns-in-Fetch-clause-read g c = read_still c.args.self.now.seen _ c.args.self.now.latest _ c.fetch.ensures.fetches.fetches.only.reading.seen c.fetch.ensures.fetches.fetches.only.reading.latest c.requires.read
+
+pub returns-in-Fetch-clause-tasks : goal.returns-in-Fetch-clause-tasks
+returns-in-Fetch-clause-tasks g c = c.fetch.ensures.fetches.fetches.only.tasks
+
+pub returns-in-Fetch-clause-ends : goal.returns-in-Fetch-clause-ends
+returns-in-Fetch-clause-ends g c =
+    subst (λ (j : Job). EndsJob g.D.Disk.told g.D.Disk.shown g.S.Store.told (g.S.Store.shown c.args.store.now) (g.S.Store.shown c.fetch.new.store) c.args.self.now c.fetch.new.self j c.fetch.result)
+    (sym c.in-Fetch.is) c.fetch.ensures.ends
+
+pub returns-in-Poll-clause-form : goal.returns-in-Poll-clause-form
+returns-in-Poll-clause-form g c = c.poll.ensures.form
+
+pub returns-in-Poll-clause-read : goal.returns-in-Poll-clause-read
+returns-in-Poll-clause-read g c = c.poll.ensures.read
+
+pub returns-in-Poll-clause-tasks : goal.returns-in-Poll-clause-tasks
+returns-in-Poll-clause-tasks g c = c.poll.ensures.only.tasks
+
+pub returns-in-Poll-clause-ends : goal.returns-in-Poll-clause-ends
+returns-in-Poll-clause-ends g c =
+    subst (λ (j : Job). EndsJob g.D.Disk.told g.D.Disk.shown g.S.Store.told (g.S.Store.shown c.args.store.now) (g.S.Store.shown c.poll.new.store) c.args.self.now c.poll.new.self j c.poll.result)
+    (sym c.in-Poll.is) c.poll.ensures.ends
+
+pub returns-in-Resolve-clause-form : goal.returns-in-Resolve-clause-form
+returns-in-Resolve-clause-form g c = c.resolve.ensures.form
+
+pub returns-in-Resolve-clause-read : goal.returns-in-Resolve-clause-read
+returns-in-Resolve-clause-read g c = read_still c.args.self.now.seen _ c.args.self.now.latest _ c.resolve.ensures.only.seen c.resolve.ensures.only.latest c.requires.read
+
+pub returns-in-Resolve-clause-tasks : goal.returns-in-Resolve-clause-tasks
+returns-in-Resolve-clause-tasks g c = c.resolve.ensures.tasks
+
+pub returns-in-Resolve-clause-ends : goal.returns-in-Resolve-clause-ends
+returns-in-Resolve-clause-ends g c =
+    subst (λ (j : Job). EndsJob g.D.Disk.told g.D.Disk.shown g.S.Store.told (g.S.Store.shown c.args.store.now) (g.S.Store.shown c.resolve.new.store) c.args.self.now c.resolve.new.self j c.resolve.result)
+    (sym c.in-Resolve.is) c.resolve.ensures.ends

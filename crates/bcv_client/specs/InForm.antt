@@ -1,0 +1,6 @@
+-- What a client keeps from call to call.
+use Rattle.bcv_client.specs.ClientForm.{IsInForm}
+use Rattle.bcv_client.specs.declared.client.Client.{Client}
+
+abbrev pub InForm : {D : Type 0} {g : _} → Client D g → Type 0
+InForm c = IsInForm c.seen c.ledger.databases c.txns c.tasks.items

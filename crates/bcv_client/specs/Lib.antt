@@ -1,0 +1,16 @@
+pub mod TaskParts
+pub mod ClientParts
+pub mod ClientForm
+pub mod InForm
+pub mod Events
+pub mod TaskStarts
+pub mod Transactions
+pub mod PagesFound
+pub mod NewTasks
+pub mod Shown
+pub mod LocalWrites
+pub mod TaskTaken
+pub mod Steps
+pub mod PollOver
+pub mod ResolveOver
+pub mod FetchOver

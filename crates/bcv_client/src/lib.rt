@@ -1,0 +1,27 @@
+//! A client of one container.
+//!
+//! It keeps its own commits in a journal on its disk until they are uploaded, reads databases at fixed versions through a cache
+//! of blocks, and sees new versions by polls. It stands on a client's log with its databases (`bcv_ledger`), on open transactions
+//! with their cache (`bcv_transaction`), on the steps of publications (`bcv_publisher`) and on what a client stands for
+//! (`bcv_clientstate`). Each call is one event of the machine: for every log over which the client stands, what it answers is
+//! what the machine accepts of what the client was seen as, and what it is seen as afterwards is the machine's state after the
+//! event.
+#![tactic(auto)]
+
+mod client;
+mod fetch;
+mod job;
+mod local;
+mod page_reads;
+mod poll;
+mod publications;
+mod reading;
+mod resolve;
+mod shown;
+mod single_step;
+mod starting;
+mod starts;
+mod task_list;
+
+pub use client::Client;
+pub use job::{Access, Job};

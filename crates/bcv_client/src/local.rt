@@ -1,0 +1,95 @@
+//! Commits and reverts: what a client writes without the store.
+ghost use Rattle.std.specs.Prelude.{◌≡◌, ◌<◌, ◌^◌, ◌+◌};
+ghost use Rattle.std.specs.Option.{option_map};
+ghost use Rattle.bcv_databases.specs.Catalog.{shown_view};
+ghost use Rattle.bcv_ledger.specs.LocalCalls.{LedgerCommits};
+ghost use Rattle.bcv_machine.specs.LocalWriting.{Commits, Reverts};
+ghost use Rattle.bcv_model.specs.Commits.{writes_of};
+ghost use Rattle.bcv_client.specs.Events.{Noting};
+ghost use Rattle.bcv_client.specs.InForm.{InForm};
+ghost use Rattle.bcv_client.specs.LocalWrites.{ClientReverts, OnlyLedger, TrimsWhere, is_fine, set_in_view};
+
+use crate::client::Client;
+use bcv_base::DbName;
+use bcv_databases::DatabaseView;
+use bcv_disk::Disk;
+use bcv_ledger::Ledger;
+use bcv_model::{Commit, Reply};
+use bcv_transaction::Transactions;
+use std::alloc::Global;
+
+impl<D: Disk> Client<D> {
+    /// Commits to a known database. At `Fine` the commit is kept through a crash, and is uploaded by the next upload of the
+    /// database.
+    pub fn commit(&mut self, alloc: Global, db: DbName, commit: Commit) -> Reply
+        requires form { InForm self.old }
+        requires taken { self.old.taken < 2 ^ 63 }
+        ensures form { InForm self.new }
+        ensures taken { self.new.taken ≡ self.old.taken + 1 }
+        ensures others { OnlyLedger self.old self.new }
+        ensures commits { LedgerCommits D.told D.shown self.old.ledger self.new.ledger db commit
+            result }
+        ensures steps { D.told.tells → Noting D.shown
+            (λ s u t. Commits s u db (writes_of commit) result t) self.old self.new result }
+    {
+        let _ = commit_size(&commit);
+        self.taken += 1;
+        let reply = self.ledger.commit(alloc, db, commit);
+        let _ = self.ledger.databases.kept();
+        reply
+    }
+
+    /// Gives up the commits of a database, whose base is known again.
+    pub fn revert(&mut self, alloc: Global, db: DbName) -> Reply
+        requires form { InForm self.old }
+        ensures form { InForm self.new }
+        ensures taken { self.new.taken ≡ self.old.taken }
+        ensures others { OnlyLedger self.old self.new }
+        ensures reverts { ClientReverts D.told D.shown self.old self.new db result }
+        ensures steps { D.told.tells → Noting D.shown (λ s u t. Reverts s u db result t)
+            self.old self.new result }
+    {
+        let busy = self.runs_publication();
+        let set = set_of(self.ledger.find(&db));
+        let reply = self.ledger.revert(alloc, db, busy);
+        trim_where(&mut self.ledger, &self.txns, set, is_fine(&reply));
+        let _ = self.ledger.databases.kept();
+        reply
+    }
+}
+
+// The set that a database's commits are in.
+fn set_of(view: Option<DatabaseView<'_>>) -> Option<usize>
+    ensures { result ≡ set_in_view (option_map shown_view view.entry) }
+{
+    let view = view?;
+    let commits = view.commits?;
+    Some(commits.set)
+}
+
+// Whether a call did what it was asked.
+fn is_fine(reply: &Reply) -> bool
+    ensures { result ≡ is_fine reply.now }
+{
+    matches!(reply, Reply::Fine)
+}
+
+// Forgets what nobody needs any more of a set, where commits in it were given up.
+fn trim_where<D: Disk>(ledger: &mut Ledger<D>, txns: &Transactions, set: Option<usize>, gone: bool)
+    ensures { TrimsWhere gone ledger.old ledger.new txns.now }
+{
+    if !gone {
+        return;
+    }
+    if let Some(set) = set {
+        ledger.trim(set, txns.oldest(set));
+    }
+}
+
+// A commit's size in pages.
+fn commit_size(commit: &Commit) -> u32
+    ensures size { result ≡ commit.now.size }
+    ensures small { commit.now.size < 2 ^ 32 }
+{
+    commit.size
+}

@@ -1,0 +1,36 @@
+//! The step of a task that ends with it.
+ghost use Rattle.std.specs.Prelude.{◌≡◌, true};
+ghost use Rattle.bcv_publisher.specs.PollStep.{IsReadForm};
+ghost use Rattle.bcv_client.specs.InForm.{InForm};
+ghost use Rattle.bcv_client.specs.Steps.{EndsJob};
+ghost use Rattle.bcv_client.specs.TaskTaken.{CanStep, is_single};
+
+use crate::client::Client;
+use crate::job::Job;
+use bcv_disk::Disk;
+use bcv_model::Reply;
+use bcv_store::Store;
+use std::alloc::Global;
+
+impl<D: Disk> Client<D> {
+    /// Makes the step of a task that fetches, polls or resolves. It was taken out, and has ended whatever is answered.
+    #[tactic(none)]
+    pub(crate) fn single_step<S: Store>(&mut self, alloc: Global, store: &mut S, job: &Job) -> Reply
+        requires form { InForm self.old }
+        requires read { IsReadForm self.old.seen self.old.latest }
+        requires can { CanStep self.old job.now }
+        requires single { is_single job.now ≡ true }
+        ensures form { InForm self.new }
+        ensures read { IsReadForm self.new.seen self.new.latest }
+        ensures tasks { self.new.tasks ≡ self.old.tasks }
+        ensures ends { EndsJob D.told D.shown S.told (S.shown store.old) (S.shown store.new)
+            self.old self.new job.now result }
+    {
+        match job {
+            Job::Fetch { access, txn, page } => self.fetch(alloc, store, *access, *txn, *page),
+            Job::Poll => self.poll(alloc, store),
+            Job::Resolve => self.resolve(alloc, store),
+            Job::Publish { .. } => unreachable!(),
+        }
+    }
+}
