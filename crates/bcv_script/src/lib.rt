@@ -19,4 +19,4 @@ mod writing;
 
 pub use fault::LineFault;
 pub use reading::{read_line, read_pair, read_world};
-pub use writing::write_reply;
+pub use writing::{write_reply, write_text};

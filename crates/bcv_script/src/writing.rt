@@ -59,12 +59,33 @@ pub fn write_reply(said: &Said, into: &mut Vec<u8>) -> Result<(), AllocError>
     }
 }
 
+/// Adds a reply's text alone to the end of `into`; it is as before where memory ran out.
+pub fn write_text(reply: &Reply, into: &mut Vec<u8>) -> Result<(), AllocError>
+    ensures ok { OnOk result (into.new.items ≡ into.old.items ++ reply_text reply.now) }
+    ensures err { OnErr result (into.new.items ≡ into.old.items) }
+{
+    let start = into.len();
+    match add_text(reply, into) {
+        Ok(()) => Ok(()),
+        Err(fault) => {
+            into.truncate(start);
+            Err(fault)
+        }
+    }
+}
+
+fn add_text(reply: &Reply, into: &mut Vec<u8>) -> Result<(), AllocError>
+    ensures { Adds result into.old.items into.new.items (reply_text reply.now) }
+{
+    add_line(&line_of(reply), into)
+}
+
 #[tactic(auto, using(crate::proofs::Adding::front_kept, crate::proofs::Adding::onto_more), unfolding(bcv_model::specs::ReplyText::said_text))]
 fn add_said(said: &Said, into: &mut Vec<u8>) -> Result<(), AllocError>
     ensures { Adds result into.old.items into.new.items (said_text said.now) }
 {
     add_published(said.published, into)?;
-    add_line(&line_of(&said.reply), into)?;
+    add_text(&said.reply, into)?;
     into.push(b'\n')?;
     Ok(())
 }
