@@ -130,6 +130,14 @@ impl PageSet {
         size_of(self.commits_of(from, to), base_pages)
     }
 
+    /// The commits of a view, each one of this set's page size.
+    pub fn commits_fit(&self, from: u64, to: u64)
+        requires { CanView self.now from to }
+        ensures { list_all (is_commit self.now.page_size) (view_of self.now from to) ≡ true }
+    {
+        self.commits_of(from, to);
+    }
+
     /// The blocks of `per_block` pages that hold a local page of a view, by their numbers from 0, ascending. The last
     /// block may have fewer pages, since pages above the view's size don't count.
     pub fn touched(
