@@ -50,6 +50,12 @@ follows_seen past s m sound last (inr there) =
 pub same_views : (sets : List (Option Held)) → KeepsViews sets sets
 same_views sets place h at = (h, at, (λ from to can. (can, refl)), refl)
 
+pub keeps_views_then : (a b c : List (Option Held)) → KeepsViews a b → KeepsViews b c → KeepsViews a c
+keeps_views_then a b c first second place h at =
+    let k = first place h at in
+    let l = second place k.0 k.1 in
+    (l.0, l.1, (λ from to can. (let x = k.2 from to can in let y = l.2 from to x.0 in (y.0, y.1 ∙ x.1))), l.3 ∙ k.3)
+
 pub same_ledger : (a b : Bool) (j k : Kept) (ks ls : List Known) → a ≡ b → j ≡ k → ks ≡ ls
     → (let c : LedgerParts = record { closed = a; kept = j; known = ks } in c) ≡ record { closed = b; kept = k; known = ls }
 same_ledger a b j k ks ls closed kept known =

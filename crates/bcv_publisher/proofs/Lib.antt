@@ -1,15 +1,17 @@
 mod Grown
-mod Moments
+pub mod Moments
 mod PollEnds
 mod PutAfter
 mod PutAnswers
 mod PutEnds
+mod WorkDrawn
 mod WorkReplies
+pub mod WorkSteps
 mod WorkFaults
 mod WorkGoes
 mod WorkKinds
 mod WorkGone
-mod WorkFits
+pub mod WorkFits
 mod WorkOutcomes
 mod WorkMachine
 mod RefusedReads
@@ -17,5 +19,5 @@ mod PutFits
 mod PutNoted
 mod ResolveAnswers
 mod ResolveEnds
-mod StepMoments
+pub mod StepMoments
 mod TaskPuts

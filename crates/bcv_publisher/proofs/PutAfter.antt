@@ -1,14 +1,19 @@
 -- The client after a step at a put, at each of its exits.
-use Rattle.std.proofs.Common.{◌≡◌, ◌∙◌, ℕ, Bool, true, false, List, [], ◌∷◌, ◌++◌, append-nil, length, Option, Some, None, refl, sym, ap, subst}
+use Rattle.std.proofs.Common.{◌≡◌, ◌∙◌, ℕ, Bool, true, false, List, [], ◌∷◌, ◌++◌, append-nil, length, Option, Some, None, MatchOption, refl, sym, ap, subst}
 use Rattle.bcv_base.specs.declared.id.Id16.{Id16}
 use Rattle.bcv_base.specs.declared.log.Entry.{Entry}
 use Rattle.bcv_base.specs.declared.manifest.Manifest.{Manifest}
+use Rattle.bcv_base.specs.declared.seen.Seen.{Seen}
 use Rattle.bcv_base.specs.History.{history_of, last_of}
 use Rattle.bcv_base.specs.Image.{Writes}
 use Rattle.bcv_cache.specs.Entry as cache
 use Rattle.bcv_clientlog.specs.LogParts.{is_shut}
+use Rattle.bcv_clientlaws.specs.OtherParts.{Includes}
 use Rattle.bcv_databases.specs.declared.known.Known.{Known}
 use Rattle.bcv_databases.specs.Sound.{AreDatabases}
+use Rattle.bcv_dbmap.specs.Growth.{AreLawful}
+use Rattle.bcv_dbmap.specs.Kept.{IsKept}
+use Rattle.bcv_dbmap.proofs.OthersLaws.{others_keep_sound}
 use Rattle.bcv_disk.specs.DiskShown.{DiskShown, DiskTold}
 use Rattle.bcv_model.specs.declared.kept.Kept.{Kept}
 use Rattle.bcv_model.specs.declared.kept.PendingPub.{PendingPub}
@@ -22,13 +27,13 @@ use Rattle.bcv_store.specs.StoreShown.{StoreShown, StoreTold}
 use Rattle.bcv_tasks.specs.declared.publish_task.PublishTask.{PublishTask}
 use Rattle.bcv_tasks.specs.declared.put_answer.PutAnswer.{PutAnswer}
 use Rattle.bcv_tasks.specs.declared.put_answer.PutAnswer.TheVariants as answer
-use Rattle.bcv_tasks.specs.State.{IsRunning, is_ready, latest_of, pending_of}
-use Rattle.bcv_tasks.specs.TaskPut.{AnswersPut, Appends, PutLeaves, TaskPuts}
-use Rattle.bcv_clientstate.specs.Fits.{Fits, FitsJob}
+use Rattle.bcv_tasks.specs.State.{IsRunning, is_ready, latest_of, pending_of, publish_of}
+use Rattle.bcv_tasks.specs.TaskPut.{AnswersPut, Appends, FitsAfterPut, PutLeaves, TaskPuts}
+use Rattle.bcv_clientstate.specs.Fits.{Fits, FitsJob, FitsSeen}
 use Rattle.bcv_clientstate.specs.KnownLaws.{known_of}
 use Rattle.bcv_clientstate.specs.PartRefusals.{runs_publication}
 use Rattle.bcv_clientstate.specs.Parts.{LedgerParts, Parts, mine_of, with_ledger}
-use Rattle.bcv_clientlaws.proofs.OtherParts.{shut_fits}
+use Rattle.bcv_clientlaws.proofs.OtherParts.{fewer_lawful, shut_fits}
 use Rattle.bcv_ledger.specs.declared.ledger.Ledger.{Ledger}
 use Rattle.bcv_ledger.specs.Begins.{Begins}
 use Rattle.bcv_ledger.specs.FitsLedger.{FitsLedger}
@@ -37,23 +42,24 @@ use Rattle.bcv_ledger.specs.NoteEnds.{IsNoteFault, NoteEnds, ShutAfter}
 use Rattle.bcv_publication.specs.PutSides.{Tried}
 use Rattle.bcv_publication.specs.TaskSides.{MayStep, job_of, seen_task, with_job}
 use Rattle.bcv_publication.proofs.TaskSides.{task_is_tried}
-use Rattle.bcv_publisher.specs.PutNotes.{FitsAfter, FitsOn}
+use Rattle.bcv_publish.specs.ManifestRead.{is_other}
+use Rattle.bcv_publisher.specs.PutNotes.{FitsAfter, FitsOn, PublishedIsKept}
+use Rattle.bcv_publisher.specs.WorkStep.{seen_before}
 use Rattle.bcv_publisher.proofs.Grown.{fits_with_ledger, same_ledger}
 use Rattle.bcv_publisher.proofs.PutEnds.{was_published, was_refused}
-use Rattle.bcv_publisher.proofs.PutFits.{alone_fits, done_ledger, grown_may, is_number, put_leaves_fit, void_ledger, waits}
+use Rattle.bcv_publisher.proofs.PutFits.{alone_fits, done_ledger, grown_may, is_number, made_is_alike, put_leaves_fit, void_ledger, waits}
 use Rattle.bcv_publisher.proofs.StepMoments.{begun_fold, begun_notes}
-use Rattle.bcv_publisher.proofs.TaskPuts.{refused_fits_on, refused_is_at_stage, same_locals}
+use Rattle.bcv_publisher.proofs.RefusedReads.{refused_is_seen}
+use Rattle.bcv_publisher.proofs.TaskPuts.{may_put, own_job, refused_fits_on, refused_is_at_stage, same_locals}
 
 module _ {D : Type 0} {g : _} (store : StoreTold) (before : StoreShown) (old : Ledger D g) (t : PublishTask) (moment : ℕ) (ready : is_ready t ≡ true) (is_open : is_shut old.log ≡ false) (p : Parts)
-    (entries : List cache.Entry) (n : ℕ) (view : List Writes) (may : MayStep before.log (with_ledger (parts_in old) p) entries n view t) (quiet : runs_publication p ≡ false) where
+    (entries : List cache.Entry) (n : ℕ) (view : List Writes) (mine : List Id16) (all : Includes mine (mine_of (with_job n (job_of view t) (with_ledger (parts_in old) p))))
+    (may : MayStep before.log (with_ledger (parts_in old) p) entries n view t) (quiet : runs_publication p ≡ false) where
   abbrev here : Parts
   here = with_ledger (parts_in old) p
 
   abbrev x : PendingPub
   x = pending_of (length view) t
-
-  abbrev mine : List Id16
-  mine = mine_of (with_job n (job_of view t) here)
 
   -- what is kept once the intent stands
   abbrev k : Kept
@@ -101,11 +107,18 @@ module _ {D : Type 0} {g : _} (store : StoreTold) (before : StoreShown) (old : L
   fault_on new log reply.NoMemory u answers = tt
   fault_on new log _ u answers = absurd answers
 
+  fault_published : (log : List Entry) (fault : Reply) (u : PublishTask) → IsNoteFault (Some fault) → PublishedIsKept log fault u
+  fault_published log reply.DiskFault u answers = tt
+  fault_published log reply.JournalFull u answers = tt
+  fault_published log reply.NoMemory u answers = tt
+  fault_published log _ u answers = absurd answers
+
   pub unbegun_after : (told : DiskTold) (shown : D → DiskShown) (new : Ledger D g) (fault : Reply) → Begins told shown old new x (Some fault)
       → FitsAfter mine old new before.log p entries view (begun_notes old.databases.kept.pending x []) fault t
   unbegun_after told shown new fault begins = record {
     fits = before_fits new fault begins.shut begins.answers begins.kept begins.known;
     job = fault_on new before.log fault t begins.answers;
+    published = fault_published before.log fault t begins.answers;
     may = (k, may_fold [] k refl);
   }
 
@@ -114,6 +127,7 @@ module _ {D : Type 0} {g : _} (store : StoreTold) (before : StoreShown) (old : L
   untouched_after = record {
     fits = alone_fits before.log [] [] [] here entries n view t moment may quiet tt;
     job = tt;
+    published = tt;
     may = (old.databases.kept, refl);
   }
 
@@ -127,12 +141,16 @@ module _ {D : Type 0} {g : _} (store : StoreTold) (before : StoreShown) (old : L
     abbrev own : List Entry
     own = puts.growth.own
 
+    -- lawful to the client's names alone
+    lawful : AreLawful (mine_of (with_job n (job_of view t) here)) (history_of before.log) others
+    lawful = fewer_lawful mine (mine_of (with_job n (job_of view t) here)) all (history_of before.log) others puts.growth.lawful
+
     abbrev waiting_parts : Parts
-    waiting_parts = waits before.log others own after.log here entries n view t moment may quiet puts.growth.lawful
+    waiting_parts = waits before.log others own after.log here entries n view t moment may quiet lawful
 
     fits_then : Fits waiting_parts entries after.log
     fits_then =
-        put_leaves_fit before.log others own after.log here entries n view t moment may quiet puts.growth.lawful puts.manifest puts.published puts.growth.grown puts.growth.sound puts.brings puts.appends
+        put_leaves_fit before.log others own after.log here entries n view t moment may quiet lawful puts.manifest puts.published puts.growth.grown puts.growth.sound puts.brings puts.appends
 
     -- whatever was noted after it, or not
     parts_then : (new : Ledger D g) (a : Bool) → is_shut new.log ≡ a → new.databases.kept ≡ mid.databases.kept → new.databases.known ≡ mid.databases.known
@@ -145,9 +163,9 @@ module _ {D : Type 0} {g : _} (store : StoreTold) (before : StoreShown) (old : L
         subst (λ (y : Parts). Fits y entries after.log) (sym (parts_then new (is_shut old.log) (closed ∙ sym is_open) kept known)) fits_then
 
     -- nothing was noted, and the task has ended
-    pub ended_after : (r : Reply) → FitsOn mine p.id mid.databases.kept after.log view r u
+    pub ended_after : (r : Reply) → FitsOn mine p.id mid.databases.kept after.log view r u → PublishedIsKept after.log r u
         → FitsAfter mine old mid after.log p entries view (begun_notes old.databases.kept.pending x []) r u
-    ended_after r job = record { fits = mid_fits mid begins.shut refl refl; job = job; may = (k, may_fold [] k refl) }
+    ended_after r job published = record { fits = mid_fits mid begins.shut refl refl; job = job; published = published; may = (k, may_fold [] k refl) }
 
     -- the task goes on
     pub refused_after : said ≡ answer.Refused → IsRunning u
@@ -159,14 +177,17 @@ module _ {D : Type 0} {g : _} (store : StoreTold) (before : StoreShown) (old : L
         let none : own ≡ [] = subst (λ (o : Option ℕ). Appends own puts.manifest o) w.none puts.appends in
         let log_is : after.log ≡ before.log ++ others = puts.growth.grown ∙ ap (λ (es : List Entry). (before.log ++ others) ++ es) none ∙ append-nil (before.log ++ others) in
         let was : FitsJob mine p.id old.databases.kept (before.log ++ others) (job_of view t) =
-        (grown_may before.log others own after.log here entries n view t moment may quiet puts.growth.lawful).fits.tasks.0 in
+        own_job mine (before.log ++ others) here entries n view t all (grown_may before.log others own after.log here entries n view t moment may quiet lawful) in
         let now : FitsJob mine p.id mid.databases.kept (before.log ++ others) (job_of view t) =
         same_locals mine p.id old.databases.kept mid.databases.kept (before.log ++ others) view t (ap (λ (j : Kept). j.locals) begins.kept) was in
         ended_after (reply.Working 2) (
           subst (λ (log : List Entry). FitsJob mine p.id mid.databases.kept log (job_of view u)) (sym log_is)
               (refused_fits_on mine p.id mid.databases.kept (before.log ++ others) view moment t u now leaves goes_on),
           refused_is_at_stage view moment t u may.running ready leaves,
-        )
+          subst (λ (log : List Entry). FitsSeen (history_of log) (seen_before (publish_of u))) (sym log_is)
+              (refused_is_seen (before.log ++ others) moment t u (others_keep_sound mine before.log others may.sound puts.growth.lawful) may.running ready
+              (may_put mine (before.log ++ others) here entries n view t all (grown_may before.log others own after.log here entries n view t moment may quiet lawful)).kept w.passed leaves),
+        ) tt
 
     -- ---- the end was noted
 
@@ -193,23 +214,29 @@ module _ {D : Type 0} {g : _} (store : StoreTold) (before : StoreShown) (old : L
 
     pub fault_after : (new : Ledger D g) (z : Note) (known : List Known) (fault : Reply) → NoteEnds told shown mid new z known (Some fault) → MayStand k z
         → FitsAfter mine old new after.log p entries view (begun_notes old.databases.kept.pending x (z ∷ [])) fault u
-    fault_after new z known fault ends stands = record { fits = fault_fits new z known fault ends; job = fault_on new after.log fault u ends.answers; may = may_note z stands }
+    fault_after new z known fault ends stands = record {
+      fits = fault_fits new z known fault ends;
+      job = fault_on new after.log fault u ends.answers;
+      published = fault_published after.log fault u ends.answers;
+      may = may_note z stands;
+    }
 
     pub may_void : MayStand k (note.Void x.id)
     may_void = may_end
 
     pub void_after : (new : Ledger D g) (r : Reply) → AreDatabases new.databases → NoteEnds told shown mid new (note.Void x.id) mid.databases.known None
-        → FitsOn mine p.id new.databases.kept after.log view r u
+        → FitsOn mine p.id new.databases.kept after.log view r u → PublishedIsKept after.log r u
         → FitsAfter mine old new after.log p entries view (begun_notes old.databases.kept.pending x (note.Void x.id ∷ [])) r u
-    void_after new r holds ends job =
+    void_after new r holds ends job published =
         let ledger : FitsLedger (history_of after.log) p.id (after_note k (note.Void x.id)) old.databases.known =
-        void_ledger before.log others own after.log here entries n view t moment may quiet puts.growth.lawful puts.manifest puts.published puts.growth.grown puts.growth.sound puts.brings puts.appends in
+        void_ledger before.log others own after.log here entries n view t moment may quiet lawful puts.manifest puts.published puts.growth.grown puts.growth.sound puts.brings puts.appends in
         record {
           fits =
               noted_fits new holds ends.shut
               (subst (λ (j : Kept). FitsLedger (history_of after.log) p.id j new.databases.known) (sym (ends.kept ∙ ap (λ (j : Kept). after_note j (note.Void x.id)) begins.kept))
               (subst (λ (ks : List Known). FitsLedger (history_of after.log) p.id (after_note k (note.Void x.id)) ks) (sym (ends.knows ∙ begins.known)) ledger));
           job = job;
+          published = published;
           may = may_note (note.Void x.id) may_end;
         }
 
@@ -218,21 +245,30 @@ module _ {D : Type 0} {g : _} (store : StoreTold) (before : StoreShown) (old : L
       published_is = (was_published number puts.outcome puts.published (last_of (history_of (before.log ++ others))) (latest_of t)
           (subst (λ (a : PutAnswer). AnswersPut a puts.outcome puts.published (last_of (history_of (before.log ++ others))) (latest_of t)) is puts.answers)).is
 
+      -- what was published is there
+      pub is_kept : MatchOption (latest_of u) ⊥ (IsKept after.log)
+      is_kept = subst (λ (a : PutAnswer). FitsAfterPut a mine after.log view u) is puts.fits
+
+      -- of the block size that was seen
+      pub is_alike : (s : Seen) → FitsSeen (history_of before.log) s → is_other s.block puts.manifest.block ≡ false
+      is_alike s is_seen =
+          made_is_alike before.log others own after.log s puts.manifest number puts.growth.grown puts.growth.sound is_seen (subst (Appends own puts.manifest) published_is puts.appends)
+
       pub may_done : MayStand k (note.Done x.id number)
       may_done = (
         may_end,
-        is_number before.log others own after.log here entries n view t moment may quiet puts.growth.lawful puts.manifest puts.published puts.growth.grown puts.growth.sound puts.brings puts.appends number
+        is_number before.log others own after.log here entries n view t moment may quiet lawful puts.manifest puts.published puts.growth.grown puts.growth.sound puts.brings puts.appends number
             published_is,
       )
 
       pub done_after : (new : Ledger D g) (found : Manifest) (r : Reply) → found ≡ puts.manifest → AreDatabases new.databases
           → NoteEnds told shown mid new (note.Done x.id number) (known_of (after_note mid.databases.kept (note.Done x.id number)) found) None
-          → FitsOn mine p.id new.databases.kept after.log view r u
+          → FitsOn mine p.id new.databases.kept after.log view r u → PublishedIsKept after.log r u
           → FitsAfter mine old new after.log p entries view (begun_notes old.databases.kept.pending x (note.Done x.id number ∷ [])) r u
-      done_after new found r same holds ends job =
+      done_after new found r same holds ends job published =
           let j : Kept = after_note k (note.Done x.id number) in
           let ledger : FitsLedger (history_of after.log) p.id j (known_of j puts.manifest) =
-          done_ledger before.log others own after.log here entries n view t moment may quiet puts.growth.lawful puts.manifest puts.published puts.growth.grown puts.growth.sound puts.brings puts.appends
+          done_ledger before.log others own after.log here entries n view t moment may quiet lawful puts.manifest puts.published puts.growth.grown puts.growth.sound puts.brings puts.appends
           number published_is in
           let known_is : new.databases.known ≡ known_of j puts.manifest =
           ends.knows ∙ ap (λ (i : Kept). known_of (after_note i (note.Done x.id number)) found) begins.kept ∙ ap (known_of j) same in
@@ -242,5 +278,6 @@ module _ {D : Type 0} {g : _} (store : StoreTold) (before : StoreShown) (old : L
                 (subst (λ (i : Kept). FitsLedger (history_of after.log) p.id i new.databases.known) (sym (ends.kept ∙ ap (λ (i : Kept). after_note i (note.Done x.id number)) begins.kept))
                 (subst (λ (ks : List Known). FitsLedger (history_of after.log) p.id j ks) (sym known_is) ledger));
             job = job;
+            published = published;
             may = may_note (note.Done x.id number) may_done;
           }

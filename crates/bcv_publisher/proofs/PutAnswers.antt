@@ -1,8 +1,11 @@
 -- What a step at a put does, at each of its exits.
-use Rattle.std.proofs.Common.{◌≡◌, ◌≢◌, ◌∙◌, ◌<◌, ◌^◌, ℕ, Bool, true, false, List, length, Option, Some, None, inl, inr, refl, sym, ap, subst, arith}
+use Rattle.std.proofs.Common.{◌≡◌, ◌≢◌, ◌∙◌, ◌<◌, ◌^◌, ◌++◌, ℕ, Bool, true, false, List, length, Option, Some, None, inl, inr, refl, sym, ap, subst, arith}
 use Rattle.std.proofs.lemmas.Option.{same_Some}
 use Rattle.bcv_base.specs.declared.id.Id16.{Id16}
+use Rattle.bcv_base.specs.declared.manifest.Manifest.{Manifest}
 use Rattle.bcv_base.specs.declared.seen.Latest.{Latest}
+use Rattle.bcv_base.specs.declared.seen.Seen.{Seen}
+use Rattle.bcv_base.specs.History.{history_of, last_of}
 use Rattle.bcv_base.specs.Image.{Writes}
 use Rattle.bcv_cache.specs.Entry as cache
 use Rattle.bcv_clientlog.specs.LogParts.{is_shut, log_disk}
@@ -24,18 +27,22 @@ use Rattle.bcv_tasks.specs.declared.publish_task.PublishTask.TheVariants as task
 use Rattle.bcv_tasks.specs.declared.put_answer.PutAnswer.{PutAnswer}
 use Rattle.bcv_tasks.specs.declared.put_answer.PutAnswer.TheVariants as answer
 use Rattle.bcv_tasks.specs.State.{IsRunning, id_of, is_ready, latest_of, left_of, pending_of}
-use Rattle.bcv_tasks.specs.TaskPut.{PutLeaves, PutsTask, TaskPuts}
-use Rattle.bcv_clientstate.specs.KnownLaws.{known_of}
-use Rattle.bcv_clientstate.specs.Parts.{Parts, mine_of, with_ledger}
+use Rattle.bcv_tasks.specs.TaskPut.{Appends, PutLeaves, PutsTask, TaskPuts}
+use Rattle.bcv_clientstate.specs.Parts.{Parts, with_ledger}
+use Rattle.bcv_databases.specs.declared.known.Known.{Known}
+use Rattle.bcv_databases.specs.Sound.{KeepsViews}
 use Rattle.bcv_ledger.specs.declared.ledger.Ledger.{Ledger}
 use Rattle.bcv_ledger.specs.Begins.{Begins}
 use Rattle.bcv_ledger.specs.LedgerNotes.{parts_in}
 use Rattle.bcv_ledger.specs.NoteEnds.{IsNoteFault, NoteEnds, ShutAfter}
-use Rattle.bcv_publication.specs.TaskSides.{MayStep, done_answer, job_of, seen_task, with_job}
-use Rattle.bcv_publisher.specs.PutStep.{Makes, PutStep, PutStepLeaves, StepSays, UnknownCause, rest_of}
-use Rattle.bcv_publisher.specs.Settles.{Settles, reply_by}
+use Rattle.bcv_publication.specs.TaskSides.{done_answer, seen_task}
+use Rattle.bcv_publish.specs.ManifestRead.{is_other}
+use Rattle.bcv_publisher.specs.PutStep.{Makes, MayPutManifest, PutSays, PutStep, PutStepLeaves, UnknownCause, kept_waiting, rest_of}
+use Rattle.bcv_publisher.specs.Settles.{Settles, known_made, reply_by}
+use Rattle.bcv_publisher.proofs.Grown.{keeps_views_then, same_views}
+use Rattle.bcv_publisher.proofs.PutFits.{made_is_alike}
 use Rattle.bcv_publisher.proofs.TaskPuts.{may_put}
-use Rattle.bcv_publisher.proofs.PutEnds.{done_with, id_with, latest_with, step_contended, step_contended_fault, step_done, step_done_fault, step_refused, step_there, step_there_fault, step_unbegun, step_unknown}
+use Rattle.bcv_publisher.proofs.PutEnds.{done_with, id_with, latest_with, step_contended, step_contended_fault, step_done, step_done_fault, step_refused, step_there, step_there_fault, step_memory, step_unbegun, step_unknown, step_untouched, was_published}
 
 -- ---- replies
 
@@ -75,22 +82,23 @@ done_no_fault (task.Copy id s) n is = cc
 done_no_fault (task.Upload id s) n is = cc
 done_no_fault (task.Cleanup id s) n is = cc
 
-module _ {D : Type 0} {g : _} (told : DiskTold) (shown : D → DiskShown) (store : StoreTold) (before : StoreShown) (old : Ledger D g) (taken : ℕ) (t : PublishTask) (moment : ℕ)
+module _ {D : Type 0} {g : _} (told : DiskTold) (shown : D → DiskShown) (store : StoreTold) (before : StoreShown) (old : Ledger D g) (seen : Seen) (taken : ℕ) (t : PublishTask) (moment : ℕ)
     (running : IsRunning t) (ready : is_ready t ≡ true) (is_open : is_shut old.log ≡ false) where
   abbrev x : PendingPub
   x = pending_of taken t
 
-  pub out_of_memory : PutStep told shown store before before old old taken t moment reply.NoMemory t
+  pub out_of_memory : PutStep told shown store before before old old seen taken t moment reply.NoMemory t
   out_of_memory = record {
     leaves = inl (refl, refl);
+    views = same_views old.databases.sets;
     shut = is_open;
     disk = DiskFails-none told (shown (log_disk old.log)) (λ e. absurd (cc));
     later = omega arith;
     unknown = tt;
-    machine = λ store_tells tells p entries n view long may honest memory. absurd (memory refl);
+    machine = λ store_tells tells p entries n view mine long may honest. step_untouched told shown old t before p entries n view mine may.own moment tells ready is_open may.step store;
   }
 
-  made_leaves : (new : Ledger D g) (u : PublishTask) (n : ℕ) → Makes old new x t moment (done_answer u n) u → PutStepLeaves old new x t moment (done_answer u n) u
+  made_leaves : (new : Ledger D g) (u : PublishTask) (n : ℕ) → Makes old new seen x t moment (done_answer u n) u → PutStepLeaves old new seen x t moment (done_answer u n) u
   made_leaves new (task.Create c) n h = h
   made_leaves new (task.Copy id s) n h = h
   made_leaves new (task.Upload id s) n h = h
@@ -98,24 +106,25 @@ module _ {D : Type 0} {g : _} (told : DiskTold) (shown : D → DiskShown) (store
 
   -- ---- the intent did not come to stand
 
-  begun_leaves : (new : Ledger D g) (fault : Reply) → IsNoteFault (Some fault) → new.databases.kept ≡ old.databases.kept → new.databases.known ≡ old.databases.known → PutStepLeaves old new x t moment fault t
+  begun_leaves : (new : Ledger D g) (fault : Reply) → IsNoteFault (Some fault) → new.databases.kept ≡ old.databases.kept → new.databases.known ≡ old.databases.known → PutStepLeaves old new seen x t moment fault t
   begun_leaves new reply.JournalFull h kept known = (refl, (kept, known))
   begun_leaves new reply.DiskFault h kept known = inl (kept, known)
   begun_leaves new reply.NoMemory h kept known = inl (kept, known)
   begun_leaves new _ h kept known = absurd h
 
-  pub not_begun : (new : Ledger D g) (fault : Reply) → Begins told shown old new x (Some fault) → PutStep told shown store before before old new taken t moment fault t
+  pub not_begun : (new : Ledger D g) (fault : Reply) → Begins told shown old new x (Some fault) → PutStep told shown store before before old new seen taken t moment fault t
   not_begun new fault begins = record {
     leaves = begun_leaves new fault begins.answers begins.kept begins.known;
+    views = begins.views;
     shut = begins.shut;
     disk = DiskFails-as told (shown (log_disk old.log)) (shown (log_disk new.log)) (λ e. ap Some e) (λ e. same_Some fault reply.DiskFault e) begins.fails;
     later = omega arith;
     unknown = note_cause before.faults before.faults fault begins.answers;
-    machine = λ store_tells tells p entries n view long may honest memory.
-        subst (λ (o : Option m.Publication). StepSays shown store (mine_of (with_job n (job_of view t) (with_ledger (parts_in old) p))) before before old new (with_ledger (parts_in old) p) (with_ledger (parts_in new) p) moment
+    machine = λ store_tells tells p entries n view mine long may honest.
+        subst (λ (o : Option m.Publication). PutSays shown store mine before before old new (with_ledger (parts_in old) p) (with_ledger (parts_in new) p) moment
         (seen_task old.databases.kept.pending view t) fault o) (sym (fault_rest new.databases.kept.pending view t fault begins.answers))
-        (step_unbegun told shown old t before p entries n view moment tells ready is_open may store new fault
-        (subst (λ (k : ℕ). Begins told shown old new (pending_of k t) (Some fault)) (sym long) begins) memory);
+        (step_unbegun told shown old t before p entries n view mine may.own moment tells ready is_open may.step store new fault
+        (subst (λ (y : PendingPub). Begins told shown old new y (Some fault)) (sym long) begins));
   }
 
   -- ---- the put was made
@@ -123,11 +132,14 @@ module _ {D : Type 0} {g : _} (told : DiskTold) (shown : D → DiskShown) (store
   module _ (mid new : Ledger D g) (begins : Begins told shown old mid x None) (after : StoreShown) (u : PublishTask) where
     -- a note that failed after the put
     fault_leaves : (fault : Reply) → IsNoteFault (Some fault) → fault ≢ reply.JournalFull → new.databases.kept ≡ mid.databases.kept → new.databases.known ≡ mid.databases.known
-        → PutStepLeaves old new x t moment fault u
+        → PutStepLeaves old new seen x t moment fault u
     fault_leaves reply.JournalFull h room kept known = absurd (room refl)
     fault_leaves reply.DiskFault h room kept known = inr (kept ∙ begins.kept, known ∙ begins.known)
     fault_leaves reply.NoMemory h room kept known = inr (kept ∙ begins.kept, known ∙ begins.known)
     fault_leaves _ h room kept known = absurd h
+
+    views_then : KeepsViews mid.databases.sets new.databases.sets → KeepsViews old.databases.sets new.databases.sets
+    views_then keeps = keeps_views_then old.databases.sets mid.databases.sets new.databases.sets begins.views keeps
 
     disk_then : (fault : Option Reply) (r : Reply) → (r ≡ reply.DiskFault → fault ≡ Some reply.DiskFault) → (fault ≡ Some reply.DiskFault → r ≡ reply.DiskFault)
         → DiskFails told (shown (log_disk mid.log)) (shown (log_disk new.log)) (fault ≡ Some reply.DiskFault)
@@ -141,15 +153,15 @@ module _ {D : Type 0} {g : _} (told : DiskTold) (shown : D → DiskShown) (store
         subst (λ (l : Ledger D g). DiskFails told (shown (log_disk old.log)) (shown (log_disk l.log)) (r ≡ reply.DiskFault)) (sym same)
         (DiskFails-as told (shown (log_disk old.log)) (shown (log_disk mid.log)) (λ e. absurd (no_fault e)) (λ e. absurd (cc e)) begins.fails)
 
-    begins_at : (view : List Writes) → length view ≡ taken → Begins told shown old mid (pending_of (length view) t) None
-    begins_at view long = subst (λ (k : ℕ). Begins told shown old mid (pending_of k t) None) (sym long) begins
+    begins_at : (view : List Writes) → pending_of (length view) t ≡ pending_of taken t → Begins told shown old mid (pending_of (length view) t) None
+    begins_at view long = subst (λ (y : PendingPub). Begins told shown old mid y None) (sym long) begins
 
-    puts_at : (said : PutAnswer) → PutsTask store before after t moment said u → store.tells → (p : Parts) (entries : List cache.Entry) (n : ℕ) (view : List Writes)
-        → MayStep before.log (with_ledger (parts_in old) p) entries n view t
-        → GrewHonestly store.alone (mine_of (with_job n (job_of view t) (with_ledger (parts_in old) p))) before.log after.log
-        → TaskPuts store (mine_of (with_job n (job_of view t) (with_ledger (parts_in old) p))) before after view t moment said u
-    puts_at said puts store_tells p entries n view may honest =
-        puts.sound store_tells (mine_of (with_job n (job_of view t) (with_ledger (parts_in old) p))) may.sound honest view (may_put before.log (with_ledger (parts_in old) p) entries n view t may)
+    puts_at : (said : PutAnswer) → PutsTask store before after t moment said u → store.tells → (p : Parts) (entries : List cache.Entry) (n : ℕ) (view : List Writes) (mine : List Id16)
+        → MayPutManifest mine before.log (with_ledger (parts_in old) p) entries n view seen t
+        → GrewHonestly store.alone mine before.log after.log
+        → TaskPuts store mine before after view t moment said u
+    puts_at said puts store_tells p entries n view mine may honest =
+        puts.sound store_tells mine may.step.sound honest view (may_put mine before.log (with_ledger (parts_in old) p) entries n view t may.own may.step)
 
     -- ---- the version was published
 
@@ -168,8 +180,15 @@ module _ {D : Type 0} {g : _} (told : DiskTold) (shown : D → DiskShown) (store
       abbrev done : Note
       done = note.Done (id_of t) number
 
-      published_by : (fault : Option Reply) → NoteEnds told shown mid new done (known_of (after_note mid.databases.kept done) latest.manifest) fault → fault ≢ Some reply.JournalFull
-          → PutStep told shown store before after old new taken t moment (reply_by fault (done_answer u number)) u
+      -- the databases that are known then, by whether the block size is another one
+      abbrev known_then : Bool → Kept → List Known → List Known
+      known_then other k known = known_made other k (id_of t) number latest.manifest known
+
+      abbrev other : Bool
+      other = is_other seen.block latest.manifest.block
+
+      published_by : (fault : Option Reply) → NoteEnds told shown mid new done (known_then other mid.databases.kept mid.databases.known) fault → fault ≢ Some reply.JournalFull
+          → PutStep told shown store before after old new seen taken t moment (reply_by fault (done_answer u number)) u
       published_by None ends room = record {
         leaves = made_leaves new u number (record {
           number = number;
@@ -177,156 +196,176 @@ module _ {D : Type 0} {g : _} (told : DiskTold) (shown : D → DiskShown) (store
           latest = latest;
           is_latest = is_latest;
           answers = same_answer;
-          keeps = (ends.kept ∙ ap (λ (k : Kept). after_note k done) begins.kept, ends.knows ∙ ap (λ (k : Kept). known_of (after_note k done) latest.manifest) begins.kept);
+          keeps = (
+            ends.kept ∙ ap (λ (k : Kept). after_note k done) begins.kept,
+            ends.knows ∙ ap (λ (k : Kept). known_then other k mid.databases.known) begins.kept ∙ ap (known_then other (kept_waiting old.databases.kept x)) begins.known,
+          );
         });
+        views = views_then ends.views;
         shut = done_shut u number (is_shut new.log) ends.shut;
         disk = disk_then None (done_answer u number) (λ e. absurd (done_no_fault u number e)) (λ e. absurd (cc)) ends.fails;
         later = puts.later;
         unknown = done_cause before.faults after.faults u number;
-        machine = λ store_tells tells p entries n view long may honest memory.
-            let told_puts = puts_at (answer.Published number) puts store_tells p entries n view may honest in
-            subst (λ (o : Option m.Publication). StepSays shown store (mine_of (with_job n (job_of view t) (with_ledger (parts_in old) p))) before after old new (with_ledger (parts_in old) p) (with_ledger (parts_in new) p) moment
+        machine = λ store_tells tells p entries n view mine long may honest.
+            let told_puts = puts_at (answer.Published number) puts store_tells p entries n view mine may honest in
+            let found : latest.manifest ≡ told_puts.manifest = manifest_is ∙ same_Some puts.leaves.manifest told_puts.manifest (sym puts.leaves.brings ∙ told_puts.brings) in
+            let alike : other ≡ false =
+            subst (λ (k : Manifest). is_other seen.block k.block ≡ false) (sym found)
+            (made_is_alike before.log told_puts.growth.others told_puts.growth.own after.log seen told_puts.manifest number told_puts.growth.grown told_puts.growth.sound may.seen_is
+            (subst (Appends told_puts.growth.own told_puts.manifest) (was_published number told_puts.outcome told_puts.published (last_of (history_of (before.log ++ told_puts.growth.others))) (latest_of t) told_puts.answers).is told_puts.appends)) in
+            subst (λ (o : Option m.Publication). PutSays shown store mine before after old new (with_ledger (parts_in old) p) (with_ledger (parts_in new) p) moment
             (seen_task old.databases.kept.pending view t) (done_answer u number) o) (sym (done_rest new.databases.kept.pending view u u number))
-            (subst (λ (r : Reply). StepSays shown store (mine_of (with_job n (job_of view t) (with_ledger (parts_in old) p))) before after old new (with_ledger (parts_in old) p) (with_ledger (parts_in new) p) moment
+            (subst (λ (r : Reply). PutSays shown store mine before after old new (with_ledger (parts_in old) p) (with_ledger (parts_in new) p) moment
             (seen_task old.databases.kept.pending view t) r None) (sym same_answer)
-            (step_done told shown old t before p entries n view moment tells ready is_open may store after mid (begins_at view long) u (answer.Published number) puts.leaves told_puts puts.failed new number refl fits
-            latest.manifest (manifest_is ∙ same_Some puts.leaves.manifest told_puts.manifest (sym puts.leaves.brings ∙ told_puts.brings)) ends));
+            (step_done told shown old t before p entries n view mine may.own moment tells ready is_open may.step store after mid (begins_at view long) u (answer.Published number) puts.leaves told_puts puts.failed new number refl fits
+            latest.manifest found (subst (λ (b : Bool). NoteEnds told shown mid new done (known_then b mid.databases.kept mid.databases.known) None) alike ends)));
       }
       published_by (Some fault) ends room = record {
         leaves = fault_leaves fault ends.answers (λ e. room (ap Some e)) ends.kept ends.knows;
+        views = views_then ends.views;
         shut = ends.shut;
         disk = disk_then (Some fault) fault (λ e. ap Some e) (λ e. same_Some fault reply.DiskFault e) ends.fails;
         later = puts.later;
         unknown = note_cause before.faults after.faults fault ends.answers;
-        machine = λ store_tells tells p entries n view long may honest memory.
-            let told_puts = puts_at (answer.Published number) puts store_tells p entries n view may honest in
-            subst (λ (o : Option m.Publication). StepSays shown store (mine_of (with_job n (job_of view t) (with_ledger (parts_in old) p))) before after old new (with_ledger (parts_in old) p) (with_ledger (parts_in new) p) moment
+        machine = λ store_tells tells p entries n view mine long may honest.
+            let told_puts = puts_at (answer.Published number) puts store_tells p entries n view mine may honest in
+            subst (λ (o : Option m.Publication). PutSays shown store mine before after old new (with_ledger (parts_in old) p) (with_ledger (parts_in new) p) moment
             (seen_task old.databases.kept.pending view t) fault o) (sym (fault_rest new.databases.kept.pending view u fault ends.answers))
-            (step_done_fault told shown old t before p entries n view moment tells ready is_open may store after mid (begins_at view long) u (answer.Published number) puts.leaves told_puts puts.failed new number refl fits
-            (known_of (after_note mid.databases.kept done) latest.manifest) fault ends memory (λ e. room (ap Some e)));
+            (step_done_fault told shown old t before p entries n view mine may.own moment tells ready is_open may.step store after mid (begins_at view long) u (answer.Published number) puts.leaves told_puts puts.failed new number refl fits
+            (known_then other mid.databases.kept mid.databases.known) fault ends (λ e. room (ap Some e)));
       }
 
     -- ---- the put was refused for good
 
     module _ (said : PutAnswer) (puts : PutsTask store before after t moment said u) where
       contended_by : (ns : List ℕ) → said ≡ answer.Contended ns → (fault : Option Reply) → NoteEnds told shown mid new (note.Void (id_of t)) mid.databases.known fault → fault ≢ Some reply.JournalFull
-          → PutStep told shown store before after old new taken t moment (reply_by fault (reply.Contended ns)) u
+          → PutStep told shown store before after old new seen taken t moment (reply_by fault (reply.Contended ns)) u
       contended_by ns is None ends room = record {
         leaves = record {
           leaves = subst (λ (a : PutAnswer). PutLeaves moment t a u) is puts.leaves;
           keeps = (ends.kept ∙ ap (λ (k : Kept). after_note k (note.Void (id_of t))) begins.kept, ends.knows ∙ begins.known);
         };
+        views = views_then ends.views;
         shut = ends.shut;
         disk = disk_then None (reply.Contended ns) (λ e. absurd (cc)) (λ e. absurd (cc)) ends.fails;
         later = puts.later;
         unknown = tt;
-        machine = λ store_tells tells p entries n view long may honest memory.
-            step_contended told shown old t before p entries n view moment tells ready is_open may store after mid (begins_at view long) u said puts.leaves (puts_at said puts store_tells p entries n view may honest) puts.failed
+        machine = λ store_tells tells p entries n view mine long may honest.
+            step_contended told shown old t before p entries n view mine may.own moment tells ready is_open may.step store after mid (begins_at view long) u said puts.leaves (puts_at said puts store_tells p entries n view mine may honest) puts.failed
             new ns is ends;
       }
       contended_by ns is (Some fault) ends room = record {
         leaves = fault_leaves fault ends.answers (λ e. room (ap Some e)) ends.kept ends.knows;
+        views = views_then ends.views;
         shut = ends.shut;
         disk = disk_then (Some fault) fault (λ e. ap Some e) (λ e. same_Some fault reply.DiskFault e) ends.fails;
         later = puts.later;
         unknown = note_cause before.faults after.faults fault ends.answers;
-        machine = λ store_tells tells p entries n view long may honest memory.
-            subst (λ (o : Option m.Publication). StepSays shown store (mine_of (with_job n (job_of view t) (with_ledger (parts_in old) p))) before after old new (with_ledger (parts_in old) p) (with_ledger (parts_in new) p) moment
+        machine = λ store_tells tells p entries n view mine long may honest.
+            subst (λ (o : Option m.Publication). PutSays shown store mine before after old new (with_ledger (parts_in old) p) (with_ledger (parts_in new) p) moment
             (seen_task old.databases.kept.pending view t) fault o) (sym (fault_rest new.databases.kept.pending view u fault ends.answers))
-            (step_contended_fault told shown old t before p entries n view moment tells ready is_open may store after mid (begins_at view long) u said puts.leaves (puts_at said puts store_tells p entries n view may honest)
-            puts.failed new ns is fault ends memory (λ e. room (ap Some e)));
+            (step_contended_fault told shown old t before p entries n view mine may.own moment tells ready is_open may.step store after mid (begins_at view long) u said puts.leaves (puts_at said puts store_tells p entries n view mine may honest)
+            puts.failed new ns is fault ends (λ e. room (ap Some e)));
       }
 
       there_by : said ≡ answer.Exists → (fault : Option Reply) → NoteEnds told shown mid new (note.Void (id_of t)) mid.databases.known fault → fault ≢ Some reply.JournalFull
-          → PutStep told shown store before after old new taken t moment (reply_by fault reply.Exists) u
+          → PutStep told shown store before after old new seen taken t moment (reply_by fault reply.Exists) u
       there_by is None ends room = record {
         leaves = record {
           leaves = subst (λ (a : PutAnswer). PutLeaves moment t a u) is puts.leaves;
           keeps = (ends.kept ∙ ap (λ (k : Kept). after_note k (note.Void (id_of t))) begins.kept, ends.knows ∙ begins.known);
         };
+        views = views_then ends.views;
         shut = ends.shut;
         disk = disk_then None reply.Exists (λ e. absurd (cc)) (λ e. absurd (cc)) ends.fails;
         later = puts.later;
         unknown = tt;
-        machine = λ store_tells tells p entries n view long may honest memory.
-            step_there told shown old t before p entries n view moment tells ready is_open may store after mid (begins_at view long) u said puts.leaves (puts_at said puts store_tells p entries n view may honest) puts.failed
+        machine = λ store_tells tells p entries n view mine long may honest.
+            step_there told shown old t before p entries n view mine may.own moment tells ready is_open may.step store after mid (begins_at view long) u said puts.leaves (puts_at said puts store_tells p entries n view mine may honest) puts.failed
             new is ends;
       }
       there_by is (Some fault) ends room = record {
         leaves = fault_leaves fault ends.answers (λ e. room (ap Some e)) ends.kept ends.knows;
+        views = views_then ends.views;
         shut = ends.shut;
         disk = disk_then (Some fault) fault (λ e. ap Some e) (λ e. same_Some fault reply.DiskFault e) ends.fails;
         later = puts.later;
         unknown = note_cause before.faults after.faults fault ends.answers;
-        machine = λ store_tells tells p entries n view long may honest memory.
-            subst (λ (o : Option m.Publication). StepSays shown store (mine_of (with_job n (job_of view t) (with_ledger (parts_in old) p))) before after old new (with_ledger (parts_in old) p) (with_ledger (parts_in new) p) moment
+        machine = λ store_tells tells p entries n view mine long may honest.
+            subst (λ (o : Option m.Publication). PutSays shown store mine before after old new (with_ledger (parts_in old) p) (with_ledger (parts_in new) p) moment
             (seen_task old.databases.kept.pending view t) fault o) (sym (fault_rest new.databases.kept.pending view u fault ends.answers))
-            (step_there_fault told shown old t before p entries n view moment tells ready is_open may store after mid (begins_at view long) u said puts.leaves (puts_at said puts store_tells p entries n view may honest)
-            puts.failed new is fault ends memory (λ e. room (ap Some e)));
+            (step_there_fault told shown old t before p entries n view mine may.own moment tells ready is_open may.step store after mid (begins_at view long) u said puts.leaves (puts_at said puts store_tells p entries n view mine may honest)
+            puts.failed new is fault ends (λ e. room (ap Some e)));
       }
 
   -- ---- every answer
 
   module _ (mid : Ledger D g) (begins : Begins told shown old mid x None) (after : StoreShown) (u : PublishTask) where
     -- nothing was noted after the put
-    refused_on : PutsTask store before after t moment answer.Refused u → left_of u ≡ 2 → IsRunning u → PutStep told shown store before after old mid taken t moment (reply.Working 2) u
+    refused_on : PutsTask store before after t moment answer.Refused u → left_of u ≡ 2 → IsRunning u → PutStep told shown store before after old mid seen taken t moment (reply.Working 2) u
     refused_on puts two goes_on = record {
       leaves = record { leaves = puts.leaves; running = goes_on; two = refl; counted = two; keeps = (begins.kept, begins.known) };
+      views = begins.views;
       shut = begins.shut;
       disk = disk_alone mid mid begins after u (reply.Working 2) refl (λ e. cc);
       later = puts.later;
       unknown = tt;
-      machine = λ store_tells tells p entries n view long may honest memory.
-          step_refused told shown old t before p entries n view moment tells ready is_open may store after mid (begins_at mid mid begins after u view long) u answer.Refused puts.leaves
-          (puts_at mid mid begins after u answer.Refused puts store_tells p entries n view may honest) puts.failed refl two mid.databases.kept.pending
-          (ap (λ (k : Kept). k.pending) begins.kept ∙ ap (λ (k : ℕ). Some (pending_of k t)) (sym long));
+      machine = λ store_tells tells p entries n view mine long may honest.
+          step_refused told shown old t before p entries n view mine may.own moment tells ready is_open may.step store after mid (begins_at mid mid begins after u view long) u answer.Refused puts.leaves
+          (puts_at mid mid begins after u answer.Refused puts store_tells p entries n view mine may honest) puts.failed refl two mid.databases.kept.pending
+          (ap (λ (k : Kept). k.pending) begins.kept ∙ ap Some (sym long));
     }
 
-    unknown_ends : PutsTask store before after t moment answer.Unknown u → PutStep told shown store before after old mid taken t moment (reply.Unknown (id_of t)) u
+    unknown_ends : PutsTask store before after t moment answer.Unknown u → PutStep told shown store before after old mid seen taken t moment (reply.Unknown (id_of t)) u
     unknown_ends puts = record {
       leaves = (refl, puts.leaves, (begins.kept, begins.known));
+      views = begins.views;
       shut = begins.shut;
       disk = disk_alone mid mid begins after u (reply.Unknown (id_of t)) refl (λ e. cc);
       later = puts.later;
       unknown = puts.failed refl;
-      machine = λ store_tells tells p entries n view long may honest memory.
-          step_unknown told shown old t before p entries n view moment tells ready is_open may store after mid (begins_at mid mid begins after u view long) u answer.Unknown puts.leaves
-          (puts_at mid mid begins after u answer.Unknown puts store_tells p entries n view may honest) puts.failed refl;
+      machine = λ store_tells tells p entries n view mine long may honest.
+          step_unknown told shown old t before p entries n view mine may.own moment tells ready is_open may.step store after mid (begins_at mid mid begins after u view long) u answer.Unknown puts.leaves
+          (puts_at mid mid begins after u answer.Unknown puts store_tells p entries n view mine may honest) puts.failed refl;
     }
 
-    memory_ends : PutsTask store before after t moment answer.NoMemory u → PutStep told shown store before after old mid taken t moment reply.NoMemory u
+    memory_ends : PutsTask store before after t moment answer.NoMemory u → PutStep told shown store before after old mid seen taken t moment reply.NoMemory u
     memory_ends puts = record {
       leaves = inr (begins.kept, begins.known);
+      views = begins.views;
       shut = begins.shut;
       disk = disk_alone mid mid begins after u reply.NoMemory refl (λ e. cc);
       later = puts.later;
       unknown = tt;
-      machine = λ store_tells tells p entries n view long may honest memory. absurd (memory refl);
+      machine = λ store_tells tells p entries n view mine long may honest.
+          step_memory told shown old t before p entries n view mine may.own moment tells ready is_open may.step store after mid (begins_at mid mid begins after u view long) u answer.NoMemory puts.leaves
+          (puts_at mid mid begins after u answer.NoMemory puts store_tells p entries n view mine may honest) puts.failed;
     }
 
     pub settled : (new : Ledger D g) (said : PutAnswer) (result : Reply) → PutsTask store before after t moment said u → (said ≡ answer.Refused → left_of u ≡ 2) → (said ≡ answer.Refused → IsRunning u)
-        → Settles told shown mid new u said result → PutStep told shown store before after old new taken t moment result u
+        → Settles told shown mid new u seen said result → PutStep told shown store before after old new seen taken t moment result u
     settled new (answer.Published number) result puts two goes_on h =
         let same = ap id_of puts.leaves.becomes ∙ id_with t _ true in
-        subst (λ (r : Reply). PutStep told shown store before after old new taken t moment r u) (sym h.is)
-        (published_by mid new begins after u number puts h.latest h.is_latest h.number h.fault
-        (subst (λ (i : Id16). NoteEnds told shown mid new (note.Done i number) (known_of (after_note mid.databases.kept (note.Done i number)) h.latest.manifest) h.fault) same h.ends) h.room)
+        subst (λ (r : Reply). PutStep told shown store before after old new seen taken t moment r u) (sym h.is)
+        (published_by mid new begins after u number puts h.latest h.is_latest h.done.number h.fault
+        (subst (λ (i : Id16). NoteEnds told shown mid new (note.Done i number) (known_made (is_other seen.block h.latest.manifest.block) mid.databases.kept i number h.latest.manifest mid.databases.known) h.fault) same h.done.ends)
+        h.done.room)
     settled new answer.Refused result puts two goes_on h =
-        subst (λ (r : Reply). PutStep told shown store before after old new taken t moment r u) (sym h.1)
-        (subst (λ (l : Ledger D g). PutStep told shown store before after old l taken t moment (reply.Working 2) u) (sym h.0) (refused_on puts (two refl) (goes_on refl)))
+        subst (λ (r : Reply). PutStep told shown store before after old new seen taken t moment r u) (sym h.1)
+        (subst (λ (l : Ledger D g). PutStep told shown store before after old l seen taken t moment (reply.Working 2) u) (sym h.0) (refused_on puts (two refl) (goes_on refl)))
     settled new (answer.Contended ns) result puts two goes_on h =
         let same = ap id_of puts.leaves.2.becomes ∙ id_with t _ false in
-        subst (λ (r : Reply). PutStep told shown store before after old new taken t moment r u) (sym h.is)
+        subst (λ (r : Reply). PutStep told shown store before after old new seen taken t moment r u) (sym h.is)
         (contended_by mid new begins after u (answer.Contended ns) puts ns refl h.fault
         (subst (λ (i : Id16). NoteEnds told shown mid new (note.Void i) mid.databases.known h.fault) same h.ends) h.room)
     settled new answer.Exists result puts two goes_on h =
-        subst (λ (r : Reply). PutStep told shown store before after old new taken t moment r u) (sym h.is)
+        subst (λ (r : Reply). PutStep told shown store before after old new seen taken t moment r u) (sym h.is)
         (there_by mid new begins after u answer.Exists puts refl h.fault
         (subst (λ (i : Id16). NoteEnds told shown mid new (note.Void i) mid.databases.known h.fault) (ap id_of puts.leaves.1) h.ends) h.room)
     settled new answer.Unknown result puts two goes_on h =
-        subst (λ (r : Reply). PutStep told shown store before after old new taken t moment r u) (sym h.1)
-        (subst (λ (l : Ledger D g). PutStep told shown store before after old l taken t moment (reply.Unknown (id_of u)) u) (sym h.0)
-        (subst (λ (i : Id16). PutStep told shown store before after old mid taken t moment (reply.Unknown i) u) (sym (ap id_of puts.leaves)) (unknown_ends puts)))
+        subst (λ (r : Reply). PutStep told shown store before after old new seen taken t moment r u) (sym h.1)
+        (subst (λ (l : Ledger D g). PutStep told shown store before after old l seen taken t moment (reply.Unknown (id_of u)) u) (sym h.0)
+        (subst (λ (i : Id16). PutStep told shown store before after old mid seen taken t moment (reply.Unknown i) u) (sym (ap id_of puts.leaves)) (unknown_ends puts)))
     settled new answer.NoMemory result puts two goes_on h =
-        subst (λ (r : Reply). PutStep told shown store before after old new taken t moment r u) (sym h.1)
-        (subst (λ (l : Ledger D g). PutStep told shown store before after old l taken t moment reply.NoMemory u) (sym h.0) (memory_ends puts))
+        subst (λ (r : Reply). PutStep told shown store before after old new seen taken t moment r u) (sym h.1)
+        (subst (λ (l : Ledger D g). PutStep told shown store before after old l seen taken t moment reply.NoMemory u) (sym h.0) (memory_ends puts))

@@ -15,6 +15,8 @@ use Rattle.bcv_base.specs.Version.{Version}
 use Rattle.bcv_base.specs.Versions.{version_of, versions_of}
 use Rattle.bcv_cache.specs.Entry as cache
 use Rattle.bcv_cleanup.specs.State as cleanup
+use Rattle.bcv_clientlaws.specs.OtherParts.{Includes}
+use Rattle.bcv_clientlaws.proofs.OtherParts.{others_leave_fits}
 use Rattle.bcv_clientlog.specs.LogParts.{is_shut}
 use Rattle.bcv_dbcopy.specs.State as copy
 use Rattle.bcv_dbmap.specs.RequestGrowth.{RequestGrowth}
@@ -44,7 +46,6 @@ use Rattle.bcv_clientstate.specs.KnownLaws.{known_of}
 use Rattle.bcv_clientstate.specs.Parts.{Parts, mine_of, with_ledger}
 use Rattle.bcv_clientstate.specs.SeenClient.{Free, read_number, seen_up, side_of}
 use Rattle.bcv_clientstate.specs.SeenContainer.{container_of}
-use Rattle.bcv_clientstate.proofs.Growth.{grows}
 use Rattle.bcv_databases.specs.declared.known.Known.{Known}
 use Rattle.bcv_ledger.specs.declared.ledger.Ledger.{Ledger}
 use Rattle.bcv_ledger.specs.Begins.{BeginGoes, Begins, free_intended, free_untried}
@@ -55,7 +56,7 @@ use Rattle.bcv_publication.specs.PutSides.{Appended, AreKnownAt, Tried, publishe
 use Rattle.bcv_publication.specs.TaskSides.{IsLastAnswer, MayStep, done_answer, job_of, number_read, seen_task, with_job}
 use Rattle.bcv_publication.proofs.PutExits.{done_meets_fault, intent_meets_fault, intent_meets_full, put_failed, put_is_done, put_is_lost, put_is_refused, put_is_void, refusal_is_lost, void_meets_fault}
 use Rattle.bcv_publication.proofs.TaskSides.{done_is_answered, done_is_known, passed_is_refused, refusal_is_answered, refused_is_tried_again, still_is_next, task_is_appended, task_is_tried}
-use Rattle.bcv_publisher.specs.PutStep.{Armed, StepGoes, StepSays, version_added}
+use Rattle.bcv_publisher.specs.PutStep.{Armed, PutSays, StepGoes, version_added}
 
 -- ---- parts and tasks
 
@@ -152,10 +153,16 @@ one_added past later v n longer is =
 nothing_grown : (log others own after : List Entry) → after ≡ (log ++ others) ++ own → own ≡ [] → history_of after ≡ history_of (log ++ others)
 nothing_grown log others own after grown none = ap history_of (grown ∙ ap (λ (es : List Entry). (log ++ others) ++ es) none ∙ append-nil (log ++ others))
 
+-- the intent's note leaves the slots
+intended_slots : (o : Option PendingPub) (x : PendingPub) (f : Free) → (free_intended o x f).slots ≡ f.slots
+intended_slots None x f = refl
+intended_slots (Some p) x f = refl
+
 -- ---- the client's side
 
 module _ {D : Type 0} {g : _} (told : DiskTold) (shown : D → DiskShown) (old : Ledger D g) (t : PublishTask) (before : StoreShown) (p : Parts) (entries : List cache.Entry) (n : ℕ) (view : List Writes)
-    (moment : ℕ) (tells : told.tells) (ready : is_ready t ≡ true) (is_open : is_shut old.log ≡ false) (may : MayStep before.log (with_ledger (parts_in old) p) entries n view t) where
+    (mine : List Id16) (all : Includes mine (mine_of (with_job n (job_of view t) (with_ledger (parts_in old) p)))) (moment : ℕ) (tells : told.tells) (ready : is_ready t ≡ true) (is_open : is_shut old.log ≡ false)
+    (may : MayStep before.log (with_ledger (parts_in old) p) entries n view t) where
   abbrev log : List Entry
   log = before.log
 
@@ -167,9 +174,6 @@ module _ {D : Type 0} {g : _} (told : DiskTold) (shown : D → DiskShown) (old :
 
   abbrev pub q : m.Publication
   q = seen_task old.databases.kept.pending view t
-
-  abbrev pub mine : List Id16
-  mine = mine_of (with_job n (job_of view t) (with_ledger (parts_in old) p))
 
   tried_now : Tried (history_of log) here q x
   tried_now = task_is_tried log here entries n view t may ready
@@ -218,41 +222,55 @@ module _ {D : Type 0} {g : _} (told : DiskTold) (shown : D → DiskShown) (old :
   tried_then : Tried past_now here q x
   tried_then = subst (λ (l : List Entry). Tried (history_of l) here q x) (sym (append-nil log)) tried_now
 
-  unbegun : (new : Ledger D g) (fault : Reply) (f : Free) → Begins told shown old new x (Some fault) → fault ≢ reply.NoMemory → Armed fault f
+  unbegun : (new : Ledger D g) (fault : Reply) (f : Free) → Begins told shown old new x (Some fault) → Armed fault f
       → BeginGoes shown new.log new.databases.kept old.databases.kept.pending x f (Some fault) → ShutAfter (Some fault) (is_shut new.log)
-      → (free : Free) × Journaled shown new.log new.databases.kept free
-      × ((o : Outcome) → StepGoes moment past_now (history_of log) here (with_ledger (parts_in new) p) f free q o fault None)
-  unbegun new reply.JournalFull f begins memory armed begun closed = (
+      → (free : Free) × (free.slots ≡ f.slots) × Journaled shown new.log new.databases.kept free
+      × (fault ≢ reply.NoMemory → (o : Outcome) → StepGoes moment past_now (history_of log) here (with_ledger (parts_in new) p) f free q o fault None)
+  unbegun new reply.JournalFull f begins armed begun closed = (
     f,
+    refl,
     begun.1,
-    λ o. goes false past_now (history_of log) past_now (with_ledger (parts_in new) p) here f f o None reply.JournalFull None (ap history_of (sym (append-nil log)))
+    λ memory o. goes false past_now (history_of log) past_now (with_ledger (parts_in new) p) here f f o None reply.JournalFull None (ap history_of (sym (append-nil log)))
         (same_parts p (is_shut new.log) (is_shut old.log) new.databases.kept old.databases.kept new.databases.known old.databases.known (closed ∙ sym is_open) begins.kept begins.known)
         (none_added past_now past_now refl)
         (intent_meets_full moment past_now here f q x (number_read (latest_of t)) o tried_then begun.0 begun.2),
   )
-  unbegun new reply.DiskFault f begins memory armed begun closed = (
+  unbegun new reply.DiskFault f begins armed begun closed = (
     free_untried x f,
+    refl,
     begun.1,
-    λ o. goes false past_now (history_of log) past_now (with_ledger (parts_in new) p) (shut here) f (free_untried x f) o None reply.DiskFault None (ap history_of (sym (append-nil log)))
+    λ memory o. goes false past_now (history_of log) past_now (with_ledger (parts_in new) p) (shut here) f (free_untried x f) o None reply.DiskFault None (ap history_of (sym (append-nil log)))
         (same_parts p (is_shut new.log) true new.databases.kept old.databases.kept new.databases.known old.databases.known closed begins.kept begins.known)
         (none_added past_now past_now refl)
         (intent_meets_fault moment past_now here f q x (number_read (latest_of t)) o tried_then begun.0 armed),
   )
-  unbegun new reply.NoMemory f begins memory armed begun closed = absurd (memory refl)
-  unbegun new _ f begins memory armed begun closed = absurd begun
+  unbegun new reply.NoMemory f begins armed begun closed = (f, refl, begun.1, λ memory o. absurd (memory refl))
+  unbegun new _ f begins armed begun closed = absurd begun
 
-  pub step_unbegun : (store : StoreTold) (new : Ledger D g) (fault : Reply) → Begins told shown old new x (Some fault) → fault ≢ reply.NoMemory
-      → StepSays shown store mine before before old new here (with_ledger (parts_in new) p) moment q fault None
-  step_unbegun store new fault begins memory = record {
+  -- nothing was done
+  pub step_untouched : (store : StoreTold) → PutSays shown store mine before before old old here here moment q reply.NoMemory None
+  step_untouched store = record {
     growth = none_grown store;
     made = false;
     request = outcome.Ok;
     planned = λ plans made. absurd (cc);
     unmade = λ made. refl;
-    cause = λ made. absurd (cc);
+    cause = λ memory made. absurd (cc);
+    steps = λ f journaled armed. (f, refl, journaled, λ memory o made. absurd (memory refl));
+  }
+
+  pub step_unbegun : (store : StoreTold) (new : Ledger D g) (fault : Reply) → Begins told shown old new x (Some fault)
+      → PutSays shown store mine before before old new here (with_ledger (parts_in new) p) moment q fault None
+  step_unbegun store new fault begins = record {
+    growth = none_grown store;
+    made = false;
+    request = outcome.Ok;
+    planned = λ plans made. absurd (cc);
+    unmade = λ made. refl;
+    cause = λ memory made. absurd (cc);
     steps = λ f journaled armed.
-        let u = unbegun new fault f begins memory armed (begins.goes tells may_intend f journaled) begins.shut in
-        (u.0, u.1, λ o made. u.2 o);
+        let u = unbegun new fault f begins armed (begins.goes tells may_intend f journaled) begins.shut in
+        (u.0, u.1, u.2, λ memory o made. u.3 memory o);
   }
 
   -- ---- the put was made
@@ -272,7 +290,7 @@ module _ {D : Type 0} {g : _} (told : DiskTold) (shown : D → DiskShown) (old :
     grown_may : MayStep (log ++ others) here entries n view t
     grown_may = record {
       sound = others_keep_sound mine log others may.sound puts.growth.lawful;
-      fits = grows log others (with_job n (job_of view t) here) entries may.sound puts.growth.lawful may.fits;
+      fits = others_leave_fits mine log others (with_job n (job_of view t) here) entries may.sound all puts.growth.lawful may.fits;
       quiet = may.quiet;
       running = may.running;
       writer = may.writer;
@@ -292,20 +310,20 @@ module _ {D : Type 0} {g : _} (told : DiskTold) (shown : D → DiskShown) (old :
         (begins.shut ∙ sym is_open) begins.kept begins.known
 
     -- the step, where its relation is known
-    says : (new : Ledger D g) (r : Reply) (rest : Option m.Publication) → (puts.outcome ≢ outcome.Ok → Rose before.faults after.faults)
-        → ((f : Free) → Journaled shown old.log old.databases.kept f → Armed r f → (free : Free) × Journaled shown new.log new.databases.kept free
-        × StepGoes moment past later here (with_ledger (parts_in new) p) f free q puts.outcome r rest)
-        → StepSays shown store mine before after old new here (with_ledger (parts_in new) p) moment q r rest
+    says : (new : Ledger D g) (r : Reply) (rest : Option m.Publication) → (r ≢ reply.NoMemory → puts.outcome ≢ outcome.Ok → Rose before.faults after.faults)
+        → ((f : Free) → Journaled shown old.log old.databases.kept f → Armed r f → (free : Free) × (free.slots ≡ f.slots) × Journaled shown new.log new.databases.kept free
+        × (r ≢ reply.NoMemory → StepGoes moment past later here (with_ledger (parts_in new) p) f free q puts.outcome r rest))
+        → PutSays shown store mine before after old new here (with_ledger (parts_in new) p) moment q r rest
     says new r rest cause steps = record {
       growth = puts.growth;
       made = true;
       request = puts.outcome;
       planned = λ plans made. puts.next plans;
       unmade = λ made. absurd (cc);
-      cause = λ made failed. cause failed;
+      cause = λ memory made failed. cause memory failed;
       steps = λ f journaled armed.
           let s = steps f journaled armed in
-          (s.0, s.1, λ o is. subst (λ (y : Outcome). StepGoes moment past later here (with_ledger (parts_in new) p) f s.0 q y r rest) (sym (is refl)) s.2);
+          (s.0, s.1, s.2, λ memory o is. subst (λ (y : Outcome). StepGoes moment past later here (with_ledger (parts_in new) p) f s.0 q y r rest) (sym (is refl)) (s.3 memory));
     }
 
     take : (second : Bool) (then_later : List Item) (new : Ledger D g) (next : Parts) (f free : Free) (o : Outcome) (number : Option ℕ) (r : Reply) (rest : Option m.Publication)
@@ -341,16 +359,17 @@ module _ {D : Type 0} {g : _} (told : DiskTold) (shown : D → DiskShown) (old :
 
     -- it was refused, and is tried again
     pub step_refused : said ≡ answer.Refused → left_of u ≡ 2 → (waiting_then : Option PendingPub) → waiting_then ≡ Some x
-        → StepSays shown store mine before after old mid here (with_ledger (parts_in mid) p) moment q (reply.Working 2) (Some (seen_task waiting_then view u))
+        → PutSays shown store mine before after old mid here (with_ledger (parts_in mid) p) moment q (reply.Working 2) (Some (seen_task waiting_then view u))
     step_refused is two waiting_then waits =
         let w = was_refused puts.outcome puts.published (last_of past) (latest_of t) (subst (λ (a : PutAnswer). AnswersPut a puts.outcome puts.published (last_of past) (latest_of t)) is puts.answers) in
         let left_so : PutLeaves moment t answer.Refused u = subst (λ (a : PutAnswer). PutLeaves moment t a u) is left in
         let rest_is : seen_task waiting_then view u ≡ tried_again q (number_read (latest_of t)) =
         ap (λ (o : Option PendingPub). seen_task o view u) waits ∙ refused_is_tried_again moment old.databases.kept.pending view t u may.running ready left_so two in
-        says mid (reply.Working 2) (Some (seen_task waiting_then view u)) (λ failed. absurd (failed w.done)) (λ f journaled armed. (
+        says mid (reply.Working 2) (Some (seen_task waiting_then view u)) (λ memory failed. absurd (failed w.done)) (λ f journaled armed. (
           free_intended old.databases.kept.pending x f,
+          intended_slots old.databases.kept.pending x f,
           mid_free f journaled,
-          subst (λ (y : m.Publication). StepGoes moment past later here (with_ledger (parts_in mid) p) f (free_intended old.databases.kept.pending x f) q puts.outcome (reply.Working 2) (Some y)) (sym rest_is)
+          λ memory. subst (λ (y : m.Publication). StepGoes moment past later here (with_ledger (parts_in mid) p) f (free_intended old.databases.kept.pending x f) q puts.outcome (reply.Working 2) (Some y)) (sym rest_is)
               (take false past mid (waiting x here) f (free_intended old.databases.kept.pending x f) outcome.Ok None (reply.Working 2) (Some (tried_again q (number_read (latest_of t)))) w.done (nothing puts.published refl w.none) mid_parts
               (none_added past past refl)
               (put_is_refused false moment past here f q x (number_read (latest_of t)) tried (refused_at w.passed)
@@ -372,11 +391,21 @@ module _ {D : Type 0} {g : _} (told : DiskTold) (shown : D → DiskShown) (old :
         take false past mid (waiting x here) f (free_intended old.databases.kept.pending x f) outcome.Lost None (reply.Unknown x.id) None is (nothing None number_as refl) mid_parts (none_added past past refl)
         (refusal_is_lost false moment past here f q x (number_read (latest_of t)) tried (refused_at says))
 
-    pub step_unknown : said ≡ answer.Unknown → StepSays shown store mine before after old mid here (with_ledger (parts_in mid) p) moment q (reply.Unknown x.id) None
-    step_unknown is = says mid (reply.Unknown x.id) None (λ failed. unknown is) (λ f journaled armed. (
+    pub step_unknown : said ≡ answer.Unknown → PutSays shown store mine before after old mid here (with_ledger (parts_in mid) p) moment q (reply.Unknown x.id) None
+    step_unknown is = says mid (reply.Unknown x.id) None (λ memory failed. unknown is) (λ f journaled armed. (
       free_intended old.databases.kept.pending x f,
+      intended_slots old.databases.kept.pending x f,
       mid_free f journaled,
-      unknown_goes puts.outcome puts.published refl refl (subst (λ (a : PutAnswer). AnswersPut a puts.outcome puts.published (last_of past) (latest_of t)) is puts.answers) f,
+      λ memory. unknown_goes puts.outcome puts.published refl refl (subst (λ (a : PutAnswer). AnswersPut a puts.outcome puts.published (last_of past) (latest_of t)) is puts.answers) f,
+    ))
+
+    -- memory ran out in it
+    pub step_memory : PutSays shown store mine before after old mid here (with_ledger (parts_in mid) p) moment q reply.NoMemory None
+    step_memory = says mid reply.NoMemory None (λ memory. absurd (memory refl)) (λ f journaled armed. (
+      free_intended old.databases.kept.pending x f,
+      intended_slots old.databases.kept.pending x f,
+      mid_free f journaled,
+      λ memory. absurd (memory refl),
     ))
 
     -- ---- it is known, and noted
@@ -395,13 +424,14 @@ module _ {D : Type 0} {g : _} (told : DiskTold) (shown : D → DiskShown) (old :
       of_versions = let e = (next_at number w.is w.still).1 in record { least = omega (arith, e); most = fits }
 
       pub step_done : (found : Manifest) → found ≡ puts.manifest → NoteEnds told shown mid new (note.Done x.id number) (known_of (after_note mid.databases.kept (note.Done x.id number)) found) None
-          → StepSays shown store mine before after old new here (with_ledger (parts_in new) p) moment q (done_answer t number) None
+          → PutSays shown store mine before after old new here (with_ledger (parts_in new) p) moment q (done_answer t number) None
       step_done found same ends =
           let known : List Known = known_of (after_note (record old.databases.kept { pending = Some x }) (note.Done x.id number)) puts.manifest in
-          says new (done_answer t number) None (λ failed. absurd (failed w.done)) (λ f journaled armed. (
+          says new (done_answer t number) None (λ memory failed. absurd (failed w.done)) (λ f journaled armed. (
             free_noted 25 (free_intended old.databases.kept.pending x f),
+            intended_slots old.databases.kept.pending x f,
             ends.goes tells (may_end, of_versions) (free_intended old.databases.kept.pending x f) (mid_free f journaled) (m.Finishing number) refl,
-            take false later new (published x number known here) f (free_noted 25 (free_intended old.databases.kept.pending x f)) outcome.Ok (Some number) (done_answer t number) None w.done refl
+            λ memory. take false later new (published x number known here) f (free_noted 25 (free_intended old.databases.kept.pending x f)) outcome.Ok (Some number) (done_answer t number) None w.done refl
                 (same_parts p (is_shut new.log) (is_shut old.log) new.databases.kept (after_note (record old.databases.kept { pending = Some x }) (note.Done x.id number)) new.databases.known known (ends.shut ∙ sym is_open)
                 (kept_done new.databases.kept (note.Done x.id number) ends.kept)
                 (ends.knows ∙ ap (λ (k : Kept). known_of (after_note k (note.Done x.id number)) found) begins.kept
@@ -415,33 +445,37 @@ module _ {D : Type 0} {g : _} (told : DiskTold) (shown : D → DiskShown) (old :
           ))
 
       done_fault : (fault : Reply) (f : Free) → EndGoes shown new.log new.databases.kept (free_intended old.databases.kept.pending x f) (note.Done x.id number) (m.Finishing number) (Some fault)
-          → ShutAfter (Some fault) (is_shut new.log) → new.databases.kept ≡ mid.databases.kept → new.databases.known ≡ mid.databases.known → fault ≢ reply.NoMemory → fault ≢ reply.JournalFull → Armed fault f
-          → (free : Free) × Journaled shown new.log new.databases.kept free × StepGoes moment past later here (with_ledger (parts_in new) p) f free q puts.outcome fault None
-      done_fault reply.DiskFault f holds closed kept known memory room armed = (
+          → ShutAfter (Some fault) (is_shut new.log) → new.databases.kept ≡ mid.databases.kept → new.databases.known ≡ mid.databases.known → fault ≢ reply.JournalFull → Armed fault f
+          → (free : Free) × (free.slots ≡ f.slots) × Journaled shown new.log new.databases.kept free
+          × (fault ≢ reply.NoMemory → StepGoes moment past later here (with_ledger (parts_in new) p) f free q puts.outcome fault None)
+      done_fault reply.DiskFault f holds closed kept known room armed = (
         free_failed 25 (m.Finishing number) (free_intended old.databases.kept.pending x f),
+        intended_slots old.databases.kept.pending x f,
         holds,
-        take false later new (shut (waiting x here)) f (free_failed 25 (m.Finishing number) (free_intended old.databases.kept.pending x f)) outcome.Ok (Some number) reply.DiskFault None w.done refl
+        λ memory. take false later new (shut (waiting x here)) f (free_failed 25 (m.Finishing number) (free_intended old.databases.kept.pending x f)) outcome.Ok (Some number) reply.DiskFault None w.done refl
             (same_parts p (is_shut new.log) true new.databases.kept (record old.databases.kept { pending = Some x }) new.databases.known old.databases.known closed (kept ∙ begins.kept) (known ∙ begins.known))
             (added number w.is w.still)
             (done_meets_fault false moment past later here f q x (number_read (latest_of t)) number (version_of past puts.manifest) tried (version_is number w.is w.still) (next_at number w.is w.still) of_versions armed),
       )
-      done_fault reply.NoMemory f holds closed kept known memory room armed = absurd (memory refl)
-      done_fault reply.JournalFull f holds closed kept known memory room armed = absurd (room refl)
-      done_fault _ f holds closed kept known memory room armed = absurd holds
+      done_fault reply.NoMemory f holds closed kept known room armed =
+          (free_intended old.databases.kept.pending x f, intended_slots old.databases.kept.pending x f, holds, λ memory. absurd (memory refl))
+      done_fault reply.JournalFull f holds closed kept known room armed = absurd (room refl)
+      done_fault _ f holds closed kept known room armed = absurd holds
 
-      pub step_done_fault : (found : List Known) (fault : Reply) → NoteEnds told shown mid new (note.Done x.id number) found (Some fault) → fault ≢ reply.NoMemory → fault ≢ reply.JournalFull
-          → StepSays shown store mine before after old new here (with_ledger (parts_in new) p) moment q fault None
-      step_done_fault found fault ends memory room = says new fault None (λ failed. absurd (failed w.done)) (λ f journaled armed.
-          done_fault fault f (ends.goes tells (may_end, of_versions) (free_intended old.databases.kept.pending x f) (mid_free f journaled) (m.Finishing number) refl) ends.shut ends.kept ends.knows memory room armed)
+      pub step_done_fault : (found : List Known) (fault : Reply) → NoteEnds told shown mid new (note.Done x.id number) found (Some fault) → fault ≢ reply.JournalFull
+          → PutSays shown store mine before after old new here (with_ledger (parts_in new) p) moment q fault None
+      step_done_fault found fault ends room = says new fault None (λ memory failed. absurd (failed w.done)) (λ f journaled armed.
+          done_fault fault f (ends.goes tells (may_end, of_versions) (free_intended old.databases.kept.pending x f) (mid_free f journaled) (m.Finishing number) refl) ends.shut ends.kept ends.knows room armed)
 
     module _ (new : Ledger D g) (r : Reply) (w : WasPassed puts.outcome puts.published (last_of past) (latest_of t)) (last : is_last_try q.kind q.refused ≡ true)
         (answers : last_refusal q.kind (q.refused ++ number_read (latest_of t) ∷ []) ≡ r) where
       void_goes : NoteEnds told shown mid new (note.Void x.id) mid.databases.known None
-          → StepSays shown store mine before after old new here (with_ledger (parts_in new) p) moment q r None
-      void_goes ends = says new r None (λ failed. absurd (failed w.done)) (λ f journaled armed. (
+          → PutSays shown store mine before after old new here (with_ledger (parts_in new) p) moment q r None
+      void_goes ends = says new r None (λ memory failed. absurd (failed w.done)) (λ f journaled armed. (
         free_noted 17 (free_intended old.databases.kept.pending x f),
+        intended_slots old.databases.kept.pending x f,
         ends.goes tells may_end (free_intended old.databases.kept.pending x f) (mid_free f journaled) m.Voiding refl,
-        subst (λ (y : Reply). StepGoes moment past later here (with_ledger (parts_in new) p) f (free_noted 17 (free_intended old.databases.kept.pending x f)) q puts.outcome y None) answers
+        λ memory. subst (λ (y : Reply). StepGoes moment past later here (with_ledger (parts_in new) p) f (free_noted 17 (free_intended old.databases.kept.pending x f)) q puts.outcome y None) answers
             (take false past new (voided x here) f (free_noted 17 (free_intended old.databases.kept.pending x f)) outcome.Ok None (last_refusal q.kind (q.refused ++ number_read (latest_of t) ∷ [])) None w.done
             (nothing puts.published refl w.none)
             (same_parts p (is_shut new.log) (is_shut old.log) new.databases.kept (after_note (record old.databases.kept { pending = Some x }) (note.Void x.id)) new.databases.known old.databases.known (ends.shut ∙ sym is_open)
@@ -451,24 +485,27 @@ module _ {D : Type 0} {g : _} (told : DiskTold) (shown : D → DiskShown) (old :
       ))
 
       void_fault : (fault : Reply) (f : Free) → EndGoes shown new.log new.databases.kept (free_intended old.databases.kept.pending x f) (note.Void x.id) m.Voiding (Some fault)
-          → ShutAfter (Some fault) (is_shut new.log) → new.databases.kept ≡ mid.databases.kept → new.databases.known ≡ mid.databases.known → fault ≢ reply.NoMemory → fault ≢ reply.JournalFull → Armed fault f
-          → (free : Free) × Journaled shown new.log new.databases.kept free × StepGoes moment past later here (with_ledger (parts_in new) p) f free q puts.outcome fault None
-      void_fault reply.DiskFault f holds closed kept known memory room armed = (
+          → ShutAfter (Some fault) (is_shut new.log) → new.databases.kept ≡ mid.databases.kept → new.databases.known ≡ mid.databases.known → fault ≢ reply.JournalFull → Armed fault f
+          → (free : Free) × (free.slots ≡ f.slots) × Journaled shown new.log new.databases.kept free
+          × (fault ≢ reply.NoMemory → StepGoes moment past later here (with_ledger (parts_in new) p) f free q puts.outcome fault None)
+      void_fault reply.DiskFault f holds closed kept known room armed = (
         free_failed 17 m.Voiding (free_intended old.databases.kept.pending x f),
+        intended_slots old.databases.kept.pending x f,
         holds,
-        take true past new (shut (waiting x here)) f (free_failed 17 m.Voiding (free_intended old.databases.kept.pending x f)) outcome.Ok None reply.DiskFault None w.done (nothing puts.published refl w.none)
+        λ memory. take true past new (shut (waiting x here)) f (free_failed 17 m.Voiding (free_intended old.databases.kept.pending x f)) outcome.Ok None reply.DiskFault None w.done (nothing puts.published refl w.none)
             (same_parts p (is_shut new.log) true new.databases.kept (record old.databases.kept { pending = Some x }) new.databases.known old.databases.known closed (kept ∙ begins.kept) (known ∙ begins.known))
             (none_added past past refl)
             (void_meets_fault moment past here f q x (number_read (latest_of t)) tried (refused_at w.passed) last armed),
       )
-      void_fault reply.NoMemory f holds closed kept known memory room armed = absurd (memory refl)
-      void_fault reply.JournalFull f holds closed kept known memory room armed = absurd (room refl)
-      void_fault _ f holds closed kept known memory room armed = absurd holds
+      void_fault reply.NoMemory f holds closed kept known room armed =
+          (free_intended old.databases.kept.pending x f, intended_slots old.databases.kept.pending x f, holds, λ memory. absurd (memory refl))
+      void_fault reply.JournalFull f holds closed kept known room armed = absurd (room refl)
+      void_fault _ f holds closed kept known room armed = absurd holds
 
-      void_meets : (fault : Reply) → NoteEnds told shown mid new (note.Void x.id) mid.databases.known (Some fault) → fault ≢ reply.NoMemory → fault ≢ reply.JournalFull
-          → StepSays shown store mine before after old new here (with_ledger (parts_in new) p) moment q fault None
-      void_meets fault ends memory room = says new fault None (λ failed. absurd (failed w.done)) (λ f journaled armed.
-          void_fault fault f (ends.goes tells may_end (free_intended old.databases.kept.pending x f) (mid_free f journaled) m.Voiding refl) ends.shut ends.kept ends.knows memory room armed)
+      void_meets : (fault : Reply) → NoteEnds told shown mid new (note.Void x.id) mid.databases.known (Some fault) → fault ≢ reply.JournalFull
+          → PutSays shown store mine before after old new here (with_ledger (parts_in new) p) moment q fault None
+      void_meets fault ends room = says new fault None (λ memory failed. absurd (failed w.done)) (λ f journaled armed.
+          void_fault fault f (ends.goes tells may_end (free_intended old.databases.kept.pending x f) (mid_free f journaled) m.Voiding refl) ends.shut ends.kept ends.knows room armed)
 
     contended_last : (ns : List ℕ) → said ≡ answer.Contended ns → IsLastAnswer (answer.Contended ns) q (number_read (latest_of t))
     contended_last ns is =
@@ -479,13 +516,13 @@ module _ {D : Type 0} {g : _} (told : DiskTold) (shown : D → DiskShown) (old :
         was_contended ns puts.outcome puts.published (last_of past) (latest_of t) (subst (λ (a : PutAnswer). AnswersPut a puts.outcome puts.published (last_of past) (latest_of t)) is puts.answers)
 
     pub step_contended : (new : Ledger D g) (ns : List ℕ) → said ≡ answer.Contended ns → NoteEnds told shown mid new (note.Void x.id) mid.databases.known None
-        → StepSays shown store mine before after old new here (with_ledger (parts_in new) p) moment q (reply.Contended ns) None
+        → PutSays shown store mine before after old new here (with_ledger (parts_in new) p) moment q (reply.Contended ns) None
     step_contended new ns is ends = void_goes new (reply.Contended ns) (contended ns is) (contended_last ns is).0 (contended_last ns is).1 ends
 
     pub step_contended_fault : (new : Ledger D g) (ns : List ℕ) → said ≡ answer.Contended ns → (fault : Reply) → NoteEnds told shown mid new (note.Void x.id) mid.databases.known (Some fault)
-        → fault ≢ reply.NoMemory → fault ≢ reply.JournalFull → StepSays shown store mine before after old new here (with_ledger (parts_in new) p) moment q fault None
-    step_contended_fault new ns is fault ends memory room =
-        void_meets new (reply.Contended ns) (contended ns is) (contended_last ns is).0 (contended_last ns is).1 fault ends memory room
+        → fault ≢ reply.JournalFull → PutSays shown store mine before after old new here (with_ledger (parts_in new) p) moment q fault None
+    step_contended_fault new ns is fault ends room =
+        void_meets new (reply.Contended ns) (contended ns is) (contended_last ns is).0 (contended_last ns is).1 fault ends room
 
     there_last : said ≡ answer.Exists → IsLastAnswer answer.Exists q (number_read (latest_of t))
     there_last is =
@@ -496,9 +533,9 @@ module _ {D : Type 0} {g : _} (told : DiskTold) (shown : D → DiskShown) (old :
         was_there puts.outcome puts.published (last_of past) (latest_of t) (subst (λ (a : PutAnswer). AnswersPut a puts.outcome puts.published (last_of past) (latest_of t)) is puts.answers)
 
     pub step_there : (new : Ledger D g) → said ≡ answer.Exists → NoteEnds told shown mid new (note.Void x.id) mid.databases.known None
-        → StepSays shown store mine before after old new here (with_ledger (parts_in new) p) moment q reply.Exists None
+        → PutSays shown store mine before after old new here (with_ledger (parts_in new) p) moment q reply.Exists None
     step_there new is ends = void_goes new reply.Exists (there is) (there_last is).0 (there_last is).1 ends
 
     pub step_there_fault : (new : Ledger D g) → said ≡ answer.Exists → (fault : Reply) → NoteEnds told shown mid new (note.Void x.id) mid.databases.known (Some fault)
-        → fault ≢ reply.NoMemory → fault ≢ reply.JournalFull → StepSays shown store mine before after old new here (with_ledger (parts_in new) p) moment q fault None
-    step_there_fault new is fault ends memory room = void_meets new reply.Exists (there is) (there_last is).0 (there_last is).1 fault ends memory room
+        → fault ≢ reply.JournalFull → PutSays shown store mine before after old new here (with_ledger (parts_in new) p) moment q fault None
+    step_there_fault new is fault ends room = void_meets new reply.Exists (there is) (there_last is).0 (there_last is).1 fault ends room

@@ -7,7 +7,8 @@ use Rattle.bcv_base.specs.declared.log.Entry.TheVariants as entry
 use Rattle.bcv_base.specs.declared.manifest.Manifest.{Manifest}
 use Rattle.bcv_base.specs.declared.object.ObjName.TheVariants as object
 use Rattle.bcv_base.specs.declared.seen.Latest.{Latest}
-use Rattle.bcv_base.specs.History.{Item, Published, as_read, history_of}
+use Rattle.bcv_base.specs.declared.seen.Seen.{Seen}
+use Rattle.bcv_base.specs.History.{Item, Published, as_read, history_of, last_of}
 use Rattle.bcv_base.specs.HistoryLaws.{history_of-more}
 use Rattle.bcv_base.specs.Image.{Writes}
 use Rattle.bcv_base.specs.ManifestRules.{MeetsRules}
@@ -26,25 +27,27 @@ use Rattle.bcv_model.specs.declared.note.Note.TheVariants as note
 use Rattle.bcv_model.specs.NoteRules.{IsVersionNumber}
 use Rattle.bcv_model.specs.Notes.{after_note}
 use Rattle.bcv_publish.specs.ManifestAppend.{IsAppended}
+use Rattle.bcv_publish.specs.ManifestRead.{is_other}
 use Rattle.bcv_publish.specs.State as publish
 use Rattle.bcv_tasks.specs.declared.publish_task.PublishTask.{PublishTask}
 use Rattle.bcv_tasks.specs.declared.publish_task.PublishTask.TheVariants as task
 use Rattle.bcv_tasks.specs.State.{IsRunning, brought, id_of, made_over, pending_of, writer_of}
 use Rattle.bcv_tasks.specs.TaskPut.{Appends}
 use Rattle.bcv_upload.specs.State as upload
-use Rattle.bcv_clientstate.specs.Fits.{Fits}
+use Rattle.bcv_clientstate.specs.Fits.{Fits, FitsSeen}
 use Rattle.bcv_clientstate.specs.KnownLaws.{known_of}
 use Rattle.bcv_clientstate.specs.PartRefusals.{runs_publication}
 use Rattle.bcv_clientstate.specs.Parts.{Parts, mine_of}
 use Rattle.bcv_clientstate.proofs.Growth.{grows}
 use Rattle.bcv_clientlaws.specs.OtherParts.{FitsKept}
-use Rattle.bcv_clientlaws.proofs.ManifestsRead.{rules_of}
-use Rattle.bcv_clientlaws.proofs.OtherParts.{kept_fits_quietly, tasks_fit}
+use Rattle.bcv_clientlaws.proofs.Appended.{seen_later}
+use Rattle.bcv_clientlaws.proofs.ManifestsRead.{rules_of, seen_is_seen_in}
+use Rattle.bcv_clientlaws.proofs.OtherParts.{includes_all, kept_fits_quietly, tasks_fit}
 use Rattle.bcv_clientlaws.proofs.TasksPut.{put_fits}
 use Rattle.bcv_ledger.specs.FitsLedger.{FitsLedger}
 use Rattle.bcv_ledger.proofs.FitsLedger.{made_keeps_fit, void_keeps_fit}
 use Rattle.bcv_publication.specs.TaskSides.{MayStep, job_of, with_job}
-use Rattle.bcv_publisher.proofs.Grown.{ledger_of_fits}
+use Rattle.bcv_publisher.proofs.Grown.{follows_seen, ledger_of_fits}
 use Rattle.bcv_publisher.proofs.ResolveEnds.{uploaded_at}
 use Rattle.bcv_publisher.proofs.TaskPuts.{may_put}
 
@@ -77,6 +80,15 @@ brought_is_last past (task.Cleanup id s) moment brings run made =
 published_is : (log own : List Entry) (m : Manifest) (etag : ℕ) → IsAppended own m etag → history_of (log ++ own) ≡ Published m ∷ history_of log
 published_is log own m etag put =
     ap (λ (es : List Entry). history_of (log ++ es)) put.1 ∙ history_of-more log (entry.Put true object.Manifest put.0 etag) ∙ ap (λ r. as_read r ∷ history_of log) put.2
+
+-- it has the block size that was seen of the log before
+pub made_is_alike : (log others own after : List Entry) (s : Seen) (m : Manifest) (n : ℕ) → after ≡ (log ++ others) ++ own → Sound (history_of after) → FitsSeen (history_of log) s → Appends own m (Some n)
+    → is_other s.block m.block ≡ false
+made_is_alike log others own after s m n grown sound is_seen appends =
+    let past_is : history_of after ≡ Published m ∷ history_of (log ++ others) = ap history_of grown ∙ published_is (log ++ others) own m appends.1.0 appends.1.1 in
+    let later : FitsSeen (history_of after) s =
+    subst (λ (now : List Entry). FitsSeen (history_of now) s) (sym grown) (seen_later (log ++ others) own s (seen_later log others s is_seen)) in
+    (follows_seen (history_of after) s m sound (ap last_of past_is) (seen_is_seen_in (history_of after) s sound later)).1
 
 -- ---- a client around the put of its task
 
@@ -116,7 +128,7 @@ module _ (log others own after : List Entry) (p : Parts) (entries : List cache.E
         ordered = fits.ordered;
         locals = fits.locals;
         are_known = record { order = fits.known_order; apart = fits.known_apart; fits = fits.known };
-        pending = inl (may_put (log ++ others) p entries n view t grown_may).fresh;
+        pending = inl (may_put (mine_of (with_job n (job_of view t) p)) (log ++ others) p entries n view t (includes_all (mine_of (with_job n (job_of view t) p))) grown_may).fresh;
       } in
       kept_fits_quietly (log ++ others) p entries (record p.kept { pending = Some x }) p.known fits kept quiet
 

@@ -20,49 +20,59 @@ use Rattle.bcv_tasks.specs.declared.put_answer.PutAnswer.TheVariants as answer
 use Rattle.bcv_tasks.specs.State.{IsRunning, is_ready, latest_of, refused_of}
 use Rattle.bcv_tasks.specs.TaskPut.{MayPut, PutLeaves, with_refused}
 use Rattle.bcv_clientstate.specs.Fits.{FitsJob, TakesFrom}
-use Rattle.bcv_clientstate.specs.Parts.{Job, Parts, mine_of}
+use Rattle.bcv_clientstate.specs.Parts.{Job, Parts, mine_of, names_of_job}
 use Rattle.bcv_clientstate.specs.Stages.{IsStagedJob}
 use Rattle.bcv_clientstate.proofs.Stages.{refused_is_staged, refused_is_swept}
+use Rattle.bcv_clientlaws.specs.OtherParts.{Includes}
 use Rattle.bcv_clientlaws.specs.PublishTasks as laws
+use Rattle.bcv_clientlaws.proofs.OtherParts.{client_is_mine, in_front, names_suffice, tasks_are_mine}
 use Rattle.bcv_clientlaws.proofs.TasksPut.{refused_task_fits}
 use Rattle.bcv_publication.specs.TaskSides.{MayStep, job_of, with_job}
 
+-- the job that a task is, of the names that are mine
+pub own_job : (mine : List Id16) (log : List Entry) (p : Parts) (entries : List cache.Entry) (n : ℕ) (view : List Writes) (t : PublishTask) → Includes mine (mine_of (with_job n (job_of view t) p))
+    → MayStep log p entries n view t → FitsJob mine p.id p.kept log (job_of view t)
+own_job mine log p entries n view t all may =
+    let whole : Parts = with_job n (job_of view t) p in
+    names_suffice (mine_of whole) mine p.id p.kept log (job_of view t) may.fits.tasks.0 (all p.id (client_is_mine whole))
+    (λ i h. all i (in_front (mine_of whole) (names_of_job (job_of view t)) _ (tasks_are_mine whole) i h))
+
 -- a task may be put by a client that stands over a log
-pub may_put : (log : List Entry) (p : Parts) (entries : List cache.Entry) (n : ℕ) (view : List Writes) (t : PublishTask) → MayStep log p entries n view t
-    → MayPut (mine_of (with_job n (job_of view t) p)) log view t
-may_put log p entries n view (task.Create c) may =
-    let job = may.fits.tasks.0 in
+pub may_put : (mine : List Id16) (log : List Entry) (p : Parts) (entries : List cache.Entry) (n : ℕ) (view : List Writes) (t : PublishTask) → Includes mine (mine_of (with_job n (job_of view t) p))
+    → MayStep log p entries n view t → MayPut mine log view t
+may_put mine log p entries n view (task.Create c) all may =
+    let job = own_job mine log p entries n view (task.Create c) all may in
     record {
       kept = subst (λ (o : Option Latest). IfSome o (IsKept log)) (sym may.running.waits) tt;
-      writer = subst (λ (i : Id16). has_id i (mine_of (with_job n (job_of view (task.Create c)) p)) ≡ true) (sym may.writer) job.3;
+      writer = subst (λ (i : Id16). has_id i mine ≡ true) (sym may.writer) job.3;
       id = job.2;
       fresh = job.4;
       owns = tt;
     }
-may_put log p entries n view (task.Copy id s) may =
-    let job = may.fits.tasks.0 in
+may_put mine log p entries n view (task.Copy id s) all may =
+    let job = own_job mine log p entries n view (task.Copy id s) all may in
     record {
       kept = job.1.read;
-      writer = subst (λ (i : Id16). has_id i (mine_of (with_job n (job_of view (task.Copy id s)) p)) ≡ true) (sym job.1.same_writer) job.1.writer_is_mine;
-      id = subst (λ (i : Id16). has_id i (mine_of (with_job n (job_of view (task.Copy id s)) p)) ≡ true) (sym may.running.0) job.1.is_mine;
+      writer = subst (λ (i : Id16). has_id i mine ≡ true) (sym job.1.same_writer) job.1.writer_is_mine;
+      id = subst (λ (i : Id16). has_id i mine ≡ true) (sym may.running.0) job.1.is_mine;
       fresh = subst (λ (i : Id16). has_version (history_of log) i ≡ false) (sym may.running.0) job.1.fresh;
       owns = job.2;
     }
-may_put log p entries n view (task.Upload id s) may =
-    let job = may.fits.tasks.0 in
+may_put mine log p entries n view (task.Upload id s) all may =
+    let job = own_job mine log p entries n view (task.Upload id s) all may in
     record {
       kept = job.1.read;
-      writer = subst (λ (i : Id16). has_id i (mine_of (with_job n (job_of view (task.Upload id s)) p)) ≡ true) (sym job.1.same_writer) job.1.writer_is_mine;
-      id = subst (λ (i : Id16). has_id i (mine_of (with_job n (job_of view (task.Upload id s)) p)) ≡ true) (sym may.running.0) job.1.is_mine;
+      writer = subst (λ (i : Id16). has_id i mine ≡ true) (sym job.1.same_writer) job.1.writer_is_mine;
+      id = subst (λ (i : Id16). has_id i mine ≡ true) (sym may.running.0) job.1.is_mine;
       fresh = subst (λ (i : Id16). has_version (history_of log) i ≡ false) (sym may.running.0) job.1.fresh;
       owns = job.2;
     }
-may_put log p entries n view (task.Cleanup id s) may =
-    let job = may.fits.tasks.0 in
+may_put mine log p entries n view (task.Cleanup id s) all may =
+    let job = own_job mine log p entries n view (task.Cleanup id s) all may in
     record {
       kept = job.1.read;
-      writer = subst (λ (i : Id16). has_id i (mine_of (with_job n (job_of view (task.Cleanup id s)) p)) ≡ true) (sym job.1.same_writer) job.1.writer_is_mine;
-      id = subst (λ (i : Id16). has_id i (mine_of (with_job n (job_of view (task.Cleanup id s)) p)) ≡ true) (sym may.running.0) job.1.is_mine;
+      writer = subst (λ (i : Id16). has_id i mine ≡ true) (sym job.1.same_writer) job.1.writer_is_mine;
+      id = subst (λ (i : Id16). has_id i mine ≡ true) (sym may.running.0) job.1.is_mine;
       fresh = subst (λ (i : Id16). has_version (history_of log) i ≡ false) (sym may.running.0) job.1.fresh;
       owns = job.2;
     }

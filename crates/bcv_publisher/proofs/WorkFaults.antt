@@ -168,43 +168,48 @@ module _ {D : Type 0} {g : _} (told : DiskTold) (shown : D → DiskShown) (old n
   abbrev next : Parts
   next = with_ledger (parts_in new) p
 
-  -- what a task that ends by a fault leaves, in the machine's words
+  -- what a task that ends by a fault leaves, in the machine's words where memory was found
   pub record Leaves (w : Option PendingPub) (fault r : Reply) (f : Free) : Type 0 where
     pub free : Free
+    pub slots : free.slots ≡ f.slots
     pub journaled : Journaled shown new.log new.databases.kept free
-    pub ended : Ended w here f fault r next free
+    pub ended : r ≢ reply.NoMemory → Ended w here f fault r next free
 
   by_void : (x : PendingPub) (fault r : Reply) (f : Free) → Journaled shown old.log old.databases.kept f → MayEnd old.databases.kept x.id
       → (end : Option Reply) → NoteEnds told shown old new (note.Void x.id) old.databases.known end → end ≢ Some reply.JournalFull → r ≡ reply_by end fault
-      → r ≢ reply.NoMemory → Armed r f → Leaves (Some x) fault r f
-  by_void x fault r f journaled may None ends room is memory armed = record {
+      → Armed r f → Leaves (Some x) fault r f
+  by_void x fault r f journaled may None ends room is armed = record {
     free = free_noted 17 f;
+    slots = refl;
     journaled = ends.goes tells may f journaled m.Voiding refl;
-    ended = inl (is, same_parts p (is_shut new.log) (is_shut old.log) new.databases.kept _ new.databases.known old.databases.known (ends.shut ∙ sym is_open) ends.kept ends.knows, refl);
+    ended = λ memory. inl (is, same_parts p (is_shut new.log) (is_shut old.log) new.databases.kept _ new.databases.known old.databases.known (ends.shut ∙ sym is_open) ends.kept ends.knows, refl);
   }
-  by_void x fault r f journaled may (Some reply.DiskFault) ends room is memory armed = record {
+  by_void x fault r f journaled may (Some reply.DiskFault) ends room is armed = record {
     free = free_failed 17 m.Voiding f;
+    slots = refl;
     journaled = ends.goes tells may f journaled m.Voiding refl;
-    ended = inr (
+    ended = λ memory. inr (
       is,
       subst (λ (y : Reply). Armed y f) is armed,
       same_parts p (is_shut new.log) true new.databases.kept old.databases.kept new.databases.known old.databases.known ends.shut ends.kept ends.knows,
       refl,
     );
   }
-  by_void x fault r f journaled may (Some reply.NoMemory) ends room is memory armed = absurd (memory is)
-  by_void x fault r f journaled may (Some reply.JournalFull) ends room is memory armed = absurd (room refl)
-  by_void x fault r f journaled may (Some _) ends room is memory armed = absurd ends.answers
+  by_void x fault r f journaled may (Some reply.NoMemory) ends room is armed =
+      record { free = f; slots = refl; journaled = ends.goes tells may f journaled m.Voiding refl; ended = λ memory. absurd (memory is) }
+  by_void x fault r f journaled may (Some reply.JournalFull) ends room is armed = absurd (room refl)
+  by_void x fault r f journaled may (Some _) ends room is armed = absurd ends.answers
 
   pub fault_leaves : (w : Option PendingPub) → old.databases.kept.pending ≡ w → IfSome w (λ x. x.id ≡ id_of u) → IsSome old.databases.kept.me → IsId (id_of u)
-      → (fault r : Reply) → EndsBy told shown old new u w fault r → r ≢ reply.NoMemory
+      → (fault r : Reply) → EndsBy told shown old new u w fault r
       → (f : Free) → Journaled shown old.log old.databases.kept f → Armed r f → Leaves w fault r f
-  fault_leaves None none waits named an_id fault r ends memory f journaled armed = record {
+  fault_leaves None none waits named an_id fault r ends f journaled armed = record {
     free = f;
+    slots = refl;
     journaled = subst (λ (l : Ledger D g). Journaled shown l.log l.databases.kept f) (sym ends.0) journaled;
-    ended = (ends.1, ap (λ (l : Ledger D g). with_ledger (parts_in l) p) ends.0, refl);
+    ended = λ memory. (ends.1, ap (λ (l : Ledger D g). with_ledger (parts_in l) p) ends.0, refl);
   }
-  fault_leaves (Some x) some waits named an_id fault r ends memory f journaled armed =
+  fault_leaves (Some x) some waits named an_id fault r ends f journaled armed =
       by_void x fault r f journaled
       (record { named = named; is_id = subst IsId (sym waits) an_id; waits = subst (λ (o : Option PendingPub). IsPendingAs o x.id) (sym some) refl })
-      ends.fault (subst (λ (i : Id16). NoteEnds told shown old new (note.Void i) old.databases.known ends.fault) (sym waits) ends.ends) ends.room ends.is memory armed
+      ends.fault (subst (λ (i : Id16). NoteEnds told shown old new (note.Void i) old.databases.known ends.fault) (sym waits) ends.ends) ends.room ends.is armed

@@ -1,5 +1,5 @@
 -- A step of a publication before its put is the machine's, and leaves a client that fits its log.
-use Rattle.std.proofs.Common.{◌≡◌, ◌≢◌, ◌∙◌, ℕ, Bool, true, false, cond, List, [], ◌++◌, length, Option, Some, None, is_none, IsSome, IfSome, refl, sym, ap, subst}
+use Rattle.std.proofs.Common.{◌≡◌, ◌≢◌, ◌∙◌, ℕ, Bool, false, cond, List, [], ◌++◌, length, Option, Some, None, is_none, IsSome, IfSome, refl, sym, ap, subst}
 use Rattle.bcv_base.specs.declared.id.Id16.{Id16}
 use Rattle.bcv_base.specs.declared.log.Entry.{Entry}
 use Rattle.bcv_base.specs.declared.manifest.Manifest.{Manifest}
@@ -58,10 +58,10 @@ use Rattle.bcv_upload.specs.State as upload
 use Rattle.bcv_upload.specs.UploadWork as uploading
 use Rattle.bcv_publisher.specs.PutStep.{Armed, StepGoes, rest_of}
 use Rattle.bcv_publisher.specs.WorkEnds.{EndsBy, EndsWork}
-use Rattle.bcv_publisher.specs.WorkStep.{IsReplyTo, MayWork, TaskFits, WorkSays, drawn_ids, moment_read, seen_before}
-use Rattle.bcv_publisher.proofs.WorkFaults.{fault_leaves, is_id, rest_fits, to_end}
+use Rattle.bcv_publisher.specs.WorkStep.{IsEvent, IsReplyTo, MayWork, TaskFits, WorkJournals, WorkSays, drawn_ids, moment_read, seen_before}
+use Rattle.bcv_publisher.proofs.WorkFaults.{Leaves, fault_leaves, is_id, rest_fits, to_end}
 use Rattle.bcv_publisher.proofs.WorkFits.{are_first, cache_fits, clean_goes, clean_staged, copy_goes, fetch_is_first, ledger_fits, upload_goes}
-use Rattle.bcv_publisher.proofs.WorkGoes.{By, On, Says, never_bad}
+use Rattle.bcv_publisher.proofs.WorkGoes.{By, Says, never_bad}
 use Rattle.bcv_publisher.proofs.WorkGone.{outlived_base}
 use Rattle.bcv_publisher.proofs.WorkKinds.{clean_says, copy_says, upload_says}
 use Rattle.bcv_publisher.proofs.WorkOutcomes.{clean_had, clean_read, copy_had, copy_read, upload_had, upload_read}
@@ -149,7 +149,8 @@ module _ {D : Type 0} {g : _} (store : StoreTold) (mine : List Id16) (before aft
 
   module _ (told : DiskTold) (shown : D → DiskShown) (names later_names : NamesShown) (clock later_clock : ClockShown) (later_c : Blocks) (new : Ledger D g)
       (made : Work) (u : PublishTask) (given : Given made u) (r : Reply) (ends : EndsWork told shown old new u made r) (is_reply : IsReplyTo r made) (tells : told.tells)
-      (is_open : is_shut old.log ≡ false) (same_id : id_of u ≡ id_of t) (cached : later_c ≡ cache_after view t c) (failed : made ≡ work.StoreFault → Rose before.faults after.faults) where
+      (is_open : is_shut old.log ≡ false) (same_id : id_of u ≡ id_of t) (cached : later_c ≡ cache_after view t c) (failed : made ≡ work.StoreFault → Rose before.faults after.faults)
+      (names_failed : made ≡ work.NamesFault → Rose names.faults later_names.faults) (clock_failed : made ≡ work.ClockFault → Rose clock.faults later_clock.faults) where
     abbrev next : Parts
     next = with_ledger (parts_in new) p
 
@@ -189,61 +190,76 @@ module _ {D : Type 0} {g : _} (store : StoreTold) (mine : List Id16) (before aft
     same_pending None waits = tt
     same_pending (Some x) waits = ap (λ (y : PendingPub). y.id) waits ∙ sym same_id
 
-    module _ (moment : ℕ) (f : Free) (journaled : Journaled shown old.log old.databases.kept f) (armed : Armed r f) (memory : r ≢ reply.NoMemory) where
-      abbrev Goes : Free → Option m.Publication → Type 0
-      Goes free rest = StepGoes moment (history_of log) (history_of after.log) here next f free q given.request r rest
+    module _ (f : Free) (journaled : Journaled shown old.log old.databases.kept f) (armed : Armed r f) where
+      abbrev Went : Type 0
+      Went = WorkJournals shown log after.log names later_names clock later_clock old new p view t given.request r u f
 
-      pub record Went : Type 0 where
-        pub free : Free
-        pub holds : Journaled shown new.log new.databases.kept free
-        pub goes : Goes free (rest_of new.databases.kept.pending view r u)
+      -- what is said at the moment that a cleanup read
+      abbrev SaysOf : Work → Type 0
+      SaysOf x =
+          (moment : ℕ) → IfSome (moment_read t u) (λ at. at ≡ moment)
+          → Says moment log own c.entries here f q (sound_then given.growth) (fits_then given.growth) given.are w given.request view u x
+
+      abbrev Goes : ℕ → Free → Option m.Publication → Type 0
+      Goes moment free rest = StepGoes moment (history_of log) (history_of after.log) here next f free q given.request r rest
 
       -- the history of the log afterwards
-      at_last : (next : Parts) (free : Free) (y : Reply) (rest : Option m.Publication) → StepGoes moment (history_of log) (history_of (log ++ own)) here next f free q given.request y rest
+      at_last : (moment : ℕ) (next : Parts) (free : Free) (y : Reply) (rest : Option m.Publication) → StepGoes moment (history_of log) (history_of (log ++ own)) here next f free q given.request y rest
           → StepGoes moment (history_of log) (history_of after.log) here next f free q given.request y rest
-      at_last next free y rest goes = subst (λ (l : List Entry). StepGoes moment (history_of log) (history_of l) here next f free q given.request y rest) (sym grown_is) goes
+      at_last moment next free y rest goes = subst (λ (l : List Entry). StepGoes moment (history_of log) (history_of l) here next f free q given.request y rest) (sym grown_is) goes
 
-      went_on : EndsWork told shown old new u work.More r → On moment log own c.entries here f q (sound_then given.growth) (fits_then given.growth) given.are w given.request view u → Went
+      went_on : EndsWork told shown old new u work.More r → SaysOf work.More → Went
       went_on on says = record {
         free = f;
-        holds = subst (λ (l : Ledger D g). Journaled shown l.log l.databases.kept f) (sym on.0) journaled;
-        goes =
+        slots = refl;
+        journaled = subst (λ (l : Ledger D g). Journaled shown l.log l.databases.kept f) (sym on.0) journaled;
+        goes = λ event moment read.
             subst (λ (l : Ledger D g). StepGoes moment (history_of log) (history_of after.log) here (with_ledger (parts_in l) p) f f q given.request r (rest_of l.databases.kept.pending view r u)) (sym on.0)
             (subst (λ (y : Reply). StepGoes moment (history_of log) (history_of after.log) here here f f q given.request y (rest_of w view y u)) (sym on.1)
-            (at_last here f (reply.Working (left_of u)) (Some (seen_task w view u)) says));
+            (at_last moment here f (reply.Working (left_of u)) (Some (seen_task w view u)) (says moment read)));
       }
 
-      went_out : (fault : Reply) → (made ≡ work.More → ⊥) → EndsBy told shown old new u w fault r
-          → By moment log own c.entries here f q (sound_then given.growth) (fits_then given.growth) given.are w given.request view u fault → Went
-      went_out fault not by says =
-          let left =
+      -- what a task that ended by a fault left
+      left_by : (fault : Reply) → EndsBy told shown old new u w fault r → Leaves told shown old new p u tells is_open w fault r f
+      left_by fault by =
           fault_leaves told shown old new p u tells is_open w refl (same_pending w may.step.waits) (subst IsSome (sym may.step.fits.named) refl)
-          (subst IsId (sym same_id) (is_id before.log c.entries here n view t may.step)) fault r by memory f journaled armed in
+          (subst IsId (sym same_id) (is_id before.log c.entries here n view t may.step)) fault r by f journaled armed
+
+      went_out : (fault : Reply) → (made ≡ work.More → ⊥) → EndsBy told shown old new u w fault r
+          → (IsEvent names later_names clock later_clock r → (moment : ℕ) → IfSome (moment_read t u) (λ at. at ≡ moment)
+          → By moment log own c.entries here f q (sound_then given.growth) (fits_then given.growth) given.are w given.request view u fault) → Went
+      went_out fault not by says =
+          let left = left_by fault by in
           record {
             free = left.free;
-            holds = left.journaled;
-            goes =
-                subst (λ (o : Option m.Publication). Goes left.free o) (sym (rest_none new.databases.kept.pending view r u made is_reply not))
-                (at_last next left.free r None (says r next left.free refl left.ended));
+            slots = left.slots;
+            journaled = left.journaled;
+            goes = λ event moment read.
+                subst (λ (o : Option m.Publication). Goes moment left.free o) (sym (rest_none new.databases.kept.pending view r u made is_reply not))
+                (at_last moment next left.free r None (says event moment read r next left.free refl (left.ended event.memory)));
           }
 
       not_more : (x : Work) → made ≡ x → (x ≡ work.More → ⊥) → made ≡ work.More → ⊥
       not_more x is other more = other (sym is ∙ more)
 
-      went : (x : Work) → made ≡ x → (x ≡ work.NamesFault → ⊥) → (x ≡ work.ClockFault → ⊥) → EndsWork told shown old new u x r
-          → Says moment log own c.entries here f q (sound_then given.growth) (fits_then given.growth) given.are w given.request view u x → Went
-      went work.More is named timed by says = went_on by says
-      went work.NoMemory is named timed by says = absurd (memory by.1)
-      went work.NamesFault is named timed by says = absurd (named refl)
-      went work.ClockFault is named timed by says = absurd (timed refl)
-      went work.Nothing is named timed by says = went_out (reply.Cleaned 0 false) (not_more work.Nothing is (λ e. absurd (cc))) by says
-      went (work.Fault e) is named timed by says = went_out (fault_reply e) (not_more (work.Fault e) is (λ e. absurd (cc))) by says
-      went work.NoContainer is named timed by says = went_out reply.NoContainer (not_more work.NoContainer is (λ e. absurd (cc))) by says
-      went (work.BadManifest at) is named timed by says = went_out (reply.BadManifest at) (not_more (work.BadManifest at) is (λ e. absurd (cc))) by says
-      went work.Gone is named timed by says = went_out reply.Gone (not_more work.Gone is (λ e. absurd (cc))) by says
-      went (work.BadBlock len) is named timed by says = went_out (reply.BadBlock len) (not_more (work.BadBlock len) is (λ e. absurd (cc))) by says
-      went work.NameTaken is named timed by says = went_out reply.NameTaken (not_more work.NameTaken is (λ e. absurd (cc))) by says
-      went work.StoreFault is named timed by says = went_out reply.StoreFault (not_more work.StoreFault is (λ e. absurd (cc))) by says
+      went : (x : Work) → made ≡ x → EndsWork told shown old new u x r → SaysOf x → Went
+      went work.More is by says = went_on by says
+      went work.NoMemory is by says = record {
+        free = f;
+        slots = refl;
+        journaled = subst (λ (l : Ledger D g). Journaled shown l.log l.databases.kept f) (sym by.0) journaled;
+        goes = λ event. absurd (event.memory by.1);
+      }
+      went work.NamesFault is by says = went_out reply.NamesFault (not_more work.NamesFault is (λ e. absurd (cc))) by (λ event. absurd (event.name (names_failed is)))
+      went work.ClockFault is by says = went_out reply.ClockFault (not_more work.ClockFault is (λ e. absurd (cc))) by (λ event. absurd (event.moment (clock_failed is)))
+      went work.Nothing is by says = went_out (reply.Cleaned 0 false) (not_more work.Nothing is (λ e. absurd (cc))) by (λ event. says)
+      went (work.Fault e) is by says = went_out (fault_reply e) (not_more (work.Fault e) is (λ e. absurd (cc))) by (λ event. says)
+      went work.NoContainer is by says = went_out reply.NoContainer (not_more work.NoContainer is (λ e. absurd (cc))) by (λ event. says)
+      went (work.BadManifest at) is by says = went_out (reply.BadManifest at) (not_more (work.BadManifest at) is (λ e. absurd (cc))) by (λ event. says)
+      went work.Gone is by says = went_out reply.Gone (not_more work.Gone is (λ e. absurd (cc))) by (λ event. says)
+      went (work.BadBlock len) is by says = went_out (reply.BadBlock len) (not_more (work.BadBlock len) is (λ e. absurd (cc))) by (λ event. says)
+      went work.NameTaken is by says = went_out reply.NameTaken (not_more work.NameTaken is (λ e. absurd (cc))) by (λ event. says)
+      went work.StoreFault is by says = went_out reply.StoreFault (not_more work.StoreFault is (λ e. absurd (cc))) by (λ event. says)
 
     -- an outcome that is not Ok is that of a fault of the store
     cause : (x : Work) → made ≡ x → (x ≡ work.NamesFault → ⊥) → (x ≡ work.ClockFault → ⊥) → (x ≡ work.NoMemory → ⊥) → AnswersWork x given.request → given.request ≢ outcome.Ok → Rose before.faults after.faults
@@ -253,30 +269,19 @@ module _ {D : Type 0} {g : _} (store : StoreTold) (mine : List Id16) (before aft
     cause work.NoMemory is named timed found had not = absurd (found refl)
     cause _ is named timed found had not = absurd (not had)
 
-    pub worked : (made ≡ work.NamesFault → Rose names.faults later_names.faults) → (made ≡ work.ClockFault → Rose clock.faults later_clock.faults)
-        → WorkSays shown store mine before after names later_names clock later_clock later_c old new p view t r u
-    worked names_failed clock_failed = record {
+    out_of_memory : made ≡ work.NoMemory → r ≡ reply.NoMemory
+    out_of_memory e = (subst (λ (y : Work). EndsWork told shown old new u y r) e ends).1
+
+    pub worked : WorkSays shown store mine before after names later_names clock later_clock later_c old new p view t r u
+    worked = record {
       growth = given.growth;
       client = client_fits;
       job = job_fits made refl;
-      step = λ event moment read.
-          let named : made ≡ work.NamesFault → ⊥ = λ e. event.name (names_failed e) in
-          let timed : made ≡ work.ClockFault → ⊥ = λ e. event.moment (clock_failed e) in
-          record {
-            growth = given.growth;
-            made = true;
-            request = given.request;
-            planned = λ plans is. given.next_is plans;
-            unmade = λ is. absurd (cc);
-            cause = λ is not. cause made refl named timed (λ e. event.memory (out_of_memory e)) given.had not;
-            steps = λ f journaled armed.
-                let s = went moment f journaled armed event.memory made refl named timed ends (given.says moment read f) in
-                (s.free, s.holds, λ o is. subst (λ (y : Outcome). StepGoes moment (history_of log) (history_of after.log) here next f s.free q y r (rest_of new.databases.kept.pending view r u)) (sym (is refl)) s.goes);
-          };
+      request = given.request;
+      planned = given.next_is;
+      cause = λ event not. cause made refl (λ e. event.name (names_failed e)) (λ e. event.moment (clock_failed e)) (λ e. event.memory (out_of_memory e)) given.had not;
+      journals = λ f journaled armed. went f journaled armed made refl ends (λ moment read. given.says moment read f);
     }
-      where
-        out_of_memory : made ≡ work.NoMemory → r ≡ reply.NoMemory
-        out_of_memory e = (subst (λ (y : Work). EndsWork told shown old new u y r) e ends).1
 
 -- ---- each kind
 

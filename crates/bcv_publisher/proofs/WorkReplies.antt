@@ -1,5 +1,5 @@
 -- What a step before a put does, by what its request came to.
-use Rattle.std.proofs.Common.{◌≡◌, ◌≢◌, ◌∙◌, ◌+◌, ◌⊎◌, Bool, false, List, [], ◌∷◌, Option, Some, None, IsSome, IfSome, inl, inr, refl, sym, ap, subst}
+use Rattle.std.proofs.Common.{◌≡◌, ◌≢◌, ◌∙◌, ◌+◌, ◌⊎◌, Bool, false, [], ◌∷◌, Option, Some, None, IsSome, IfSome, inl, inr, refl, sym, ap, subst}
 use Rattle.std.proofs.lemmas.Option.{same_Some}
 use Rattle.bcv_base.specs.declared.id.Id16.{Id16}
 use Rattle.bcv_base.specs.Drawn.{NamesShown}

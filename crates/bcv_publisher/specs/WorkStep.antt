@@ -1,22 +1,27 @@
 -- The step of a publication before its put: one request, and void where it ends while pending.
-use Rattle.std.specs.Prelude.{◌≡◌, ◌≢◌, ◌+◌, ◌≤◌, ◌⊎◌, ℕ, true, false, List, [], ◌∷◌, Option, Some, None, IfSome, IsSome, if◌then◌else◌, is_none}
+use Rattle.std.specs.Prelude.{◌≡◌, ◌≢◌, ◌+◌, ◌≤◌, ◌⊎◌, ℕ, true, false, List, [], ◌∷◌, ◌++◌, length, Option, Some, None, IfSome, IsSome, if◌then◌else◌, is_none}
+use Rattle.bcv_base.specs.declared.clock.Now.TheVariants as now
 use Rattle.bcv_base.specs.declared.id.Id16.{Id16}
 use Rattle.bcv_base.specs.declared.log.Entry.{Entry}
+use Rattle.bcv_base.specs.declared.outcome.Outcome.{Outcome}
+use Rattle.bcv_base.specs.declared.outcome.Outcome.TheVariants as outcome
 use Rattle.bcv_base.specs.declared.seen.Seen.{Seen}
-use Rattle.bcv_base.specs.Drawn.{NamesShown}
+use Rattle.bcv_base.specs.Drawn.{AddsNames, NamesShown}
 use Rattle.bcv_base.specs.Faults.{Rose}
 use Rattle.bcv_base.specs.History.{Item, first_put, history_of}
 use Rattle.bcv_base.specs.Ids.{IsId, has_id}
 use Rattle.bcv_base.specs.Image.{Writes}
-use Rattle.bcv_base.specs.Moments.{ClockShown}
+use Rattle.bcv_base.specs.Moments.{ClockShown, Tells}
 use Rattle.bcv_cache.specs.Entry.{Blocks}
 use Rattle.bcv_cache.specs.Entry as cache
 use Rattle.bcv_cleanup.specs.Released.{RuleAnswers}
 use Rattle.bcv_clientlaws.specs.OtherParts.{Includes}
 use Rattle.bcv_clientlog.specs.LogParts.{Holds, LoadsUpTo, is_shut, log_area, log_disk, log_tail}
 use Rattle.bcv_clientstate.specs.Fits.{Fits, FitsJob, FitsSeen}
+use Rattle.bcv_clientstate.specs.Journaled.{Journaled}
 use Rattle.bcv_clientstate.specs.PartRefusals.{runs_publication}
 use Rattle.bcv_clientstate.specs.Parts.{Parts, mine_of, with_ledger}
+use Rattle.bcv_clientstate.specs.SeenClient.{Free}
 use Rattle.bcv_clientstate.specs.Stages.{IsStagedJob}
 use Rattle.bcv_databases.specs.Sound.{KeepsViews}
 use Rattle.bcv_dbmap.specs.Honest.{GrewHonestly}
@@ -37,12 +42,14 @@ use Rattle.bcv_publication.specs.TaskSides.{MayStep, job_of, seen_task, with_job
 use Rattle.bcv_publish.specs.declared.work.Work.{Work}
 use Rattle.bcv_publish.specs.declared.work.Work.TheVariants as work
 use Rattle.bcv_publish.specs.State as publish
+use Rattle.bcv_store.specs.Plans.{next_of}
 use Rattle.bcv_store.specs.StoreShown.{StoreShown, StoreTold}
 use Rattle.bcv_tasks.specs.declared.publish_task.PublishTask.{PublishTask}
 use Rattle.bcv_tasks.specs.declared.publish_task.PublishTask.TheVariants as task
-use Rattle.bcv_tasks.specs.State.{IsRunning, id_of, latest_of, left_of, pending_of, publish_of}
+use Rattle.bcv_tasks.specs.KindsWork.{KindWorks}
+use Rattle.bcv_tasks.specs.State.{IsRunning, id_of, is_ready, latest_of, left_of, pending_of, publish_of}
 use Rattle.bcv_tasks.specs.TaskWork.{TaskWorks, WorkLeaves, WorksAs, cache_after}
-use Rattle.bcv_publisher.specs.PutStep.{Keeps, StepSays, rest_of}
+use Rattle.bcv_publisher.specs.PutStep.{Armed, Keeps, StepGoes, rest_of}
 use Rattle.bcv_publisher.specs.WorkEnds.{EndsWork}
 
 -- ---- over every store and disk
@@ -160,8 +167,24 @@ pub record IsEvent (names later_names : NamesShown) (clock later_clock : ClockSh
   pub name : Rose names.faults later_names.faults → ⊥
   pub moment : Rose clock.faults later_clock.faults → ⊥
 
--- whatever is answered the log has grown by lawful entries, and the client fits it, without the
--- task and with it where it goes on; an event is the machine's step, at the moment a cleanup read
+-- what is free after a step, of the same slots, and that the journal holds what is kept; an event is
+-- the machine's step, at the moment that a cleanup read
+pub record WorkJournals {D : Type 0} {g : _} (shown : D → DiskShown) (before after : List Entry)
+    (names later_names : NamesShown) (clock later_clock : ClockShown) (old new : Ledger D g) (p : Parts)
+    (view : List Writes) (t : PublishTask) (request : Outcome) (r : Reply) (u : PublishTask) (f : Free) :
+    Type 0 where
+  pub free : Free
+  pub slots : free.slots ≡ f.slots
+  pub journaled : Journaled shown new.log new.databases.kept free
+  pub goes : IsEvent names later_names clock later_clock r → (moment : ℕ)
+      → IfSome (moment_read t u) (λ at. at ≡ moment)
+      → StepGoes moment (history_of before) (history_of after) (with_ledger (parts_in old) p)
+      (with_ledger (parts_in new) p) f free (seen_task old.databases.kept.pending view t) request r
+      (rest_of new.databases.kept.pending view r u)
+
+-- whatever is answered the log has grown by lawful entries, the client fits it, without the task and
+-- with it where it goes on, and its journal holds what it keeps; an event is the machine's step, from
+-- what others appended to all, under the outcome that the request had
 pub record WorkSays {D : Type 0} {g : _} (shown : D → DiskShown) (store : StoreTold)
     (mine : List Id16) (before after : StoreShown) (names later_names : NamesShown)
     (clock later_clock : ClockShown) (later_c : Blocks) (old new : Ledger D g) (p : Parts)
@@ -169,11 +192,13 @@ pub record WorkSays {D : Type 0} {g : _} (shown : D → DiskShown) (store : Stor
   pub growth : RequestGrowth store.alone mine before.log after.log
   pub client : Fits (with_ledger (parts_in new) p) later_c.entries after.log
   pub job : TaskFits mine (with_ledger (parts_in new) p) after.log view r u
-  pub step : IsEvent names later_names clock later_clock r → (moment : ℕ)
-      → IfSome (moment_read t u) (λ at. at ≡ moment)
-      → StepSays shown store mine before after old new (with_ledger (parts_in old) p)
-      (with_ledger (parts_in new) p) moment
-      (seen_task old.databases.kept.pending view t) r (rest_of new.databases.kept.pending view r u)
+  pub request : Outcome
+  pub planned : store.plans → request ≡ next_of before.plan
+  pub cause : IsEvent names later_names clock later_clock r → request ≢ outcome.Ok
+      → Rose before.faults after.faults
+  pub journals : (f : Free) → Journaled shown old.log old.databases.kept f → Armed r f
+      → WorkJournals shown (before.log ++ growth.others) after.log names later_names clock later_clock
+      old new p view t request r u f
 
 -- the step, for each client that may make it over a log which others grow honestly
 abbrev pub WorkSteps : {D : Type 0} {g : _} → (D → DiskShown) → StoreTold → StoreShown → StoreShown
@@ -198,6 +223,12 @@ pub record WorkStep {D : Type 0} {g : _} (told : DiskTold) (shown : D → DiskSh
   pub leaves : WorkLeaves answers seen view c t made u
   pub kind : WorksAs store before after names later_names clock later_clock seen view c t made u
   pub works : TaskWorks store before after names later_names clock later_clock view c t made u
+  -- at most one name was drawn, and the moment that a cleanup read is the clock's
+  pub drawn : AddsNames names.drawn later_names.drawn
+      (drawn_ids store before after names later_names clock later_clock seen view c t made u kind)
+  pub few : length (drawn_ids store before after names later_names clock later_clock seen view c t made
+      u kind) ≤ 1
+  pub reads : IfSome (moment_read t u) (λ at. Tells clock later_clock (now.At at))
   pub ends : EndsWork told shown old new u made r
   pub is_reply : IsReplyTo r made
   pub task : LeavesTask t r u
@@ -221,3 +252,27 @@ pub record WorkStep {D : Type 0} {g : _} (told : DiskTold) (shown : D → DiskSh
       → WorkSteps shown store before after names later_names clock later_clock
       (drawn_ids store before after names later_names clock later_clock seen view c t made u kind)
       seen view c later_c old new t r u
+
+-- ---- from its request
+
+-- a request of a task that is not ready, over a cache: what it came to, and what it left
+pub record TaskRequest (answers : RuleAnswers) (store : StoreTold) (before after : StoreShown)
+    (names later_names : NamesShown) (clock later_clock : ClockShown) (seen : Seen) (view : List Writes)
+    (c later_c : Blocks) (t : PublishTask) (made : Work) (u : PublishTask) : Type 0 where
+  pub not_ready : is_ready t ≡ false
+  pub step : KindWorks answers store before after names later_names clock later_clock seen view c t made u
+  pub cache : later_c ≡ cache_after view t c
+  pub running : made ≡ work.More → IsRunning u
+
+-- it is the step of its publication, once what it came to is noted
+abbrev pub RequestIsStep : {D : Type 0} {g : _} → DiskTold → (D → DiskShown) → RuleAnswers → StoreTold
+    → Ledger D g → Ledger D g → Type 0
+RequestIsStep told shown answers store old new =
+    (before after : StoreShown) (names later_names : NamesShown) (clock later_clock : ClockShown)
+    (seen : Seen) (view : List Writes) (c later_c : Blocks) (t : PublishTask) (made : Work) (r : Reply)
+    (u : PublishTask) → is_shut old.log ≡ false
+    → IfSome old.databases.kept.pending (λ x. x.id ≡ id_of t)
+    → TaskRequest answers store before after names later_names clock later_clock seen view c later_c t
+    made u → EndsWork told shown old new u made r
+    → WorkStep told shown store before after names later_names clock later_clock answers seen view c
+    later_c old new t r u

@@ -12,12 +12,11 @@ mod container_poll;
 mod laws;
 mod pending_resolve;
 mod publication_put;
-mod publication_work;
 mod put_end;
 mod work_end;
 
 pub use container_poll::poll_step;
-pub use laws::refused_reads_are_seen;
+pub use laws::{refused_reads_are_seen, requests_are_steps};
 pub use pending_resolve::resolve_step;
 pub use publication_put::put_step;
-pub use publication_work::work_step;
+pub use work_end::end_work;

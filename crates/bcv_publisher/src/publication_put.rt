@@ -8,6 +8,7 @@ ghost use Rattle.bcv_publisher.specs.PutStep.{PutStep};
 ghost use Rattle.bcv_tasks.specs.State.{IsRunning, is_ready, pending_of, upload_of};
 
 use crate::put_end::settle;
+use bcv_base::Seen;
 use bcv_disk::Disk;
 use bcv_ledger::Ledger;
 use bcv_model::Reply;
@@ -17,13 +18,15 @@ use std::alloc::Global;
 
 /// Makes the manifest's put of a task that is ready, with its notes: the intent where the publication is not pending yet, and
 /// done or void after it. An upload takes so many commits of its database. The task goes on where `Working` is answered, and
-/// has ended at every other answer. Where it is not known what became of the put, the publication stays pending.
+/// has ended at every other answer. Where it is not known what became of the put, the publication stays pending. `seen` is
+/// what the client has seen of the container: of a manifest that it publishes in another block size nothing is known.
 pub fn put_step<D: Disk, S: Store>(
     alloc: Global,
     ledger: &mut Ledger<D>,
     store: &mut S,
     task: &mut PublishTask,
     taken: u64,
+    seen: &Seen,
     moment: u64,
 ) -> Reply
     requires running { IsRunning task.old }
@@ -32,9 +35,9 @@ pub fn put_step<D: Disk, S: Store>(
     requires upload { IfSome (upload_of taken task.old) (CanUpload ledger.old.databases.kept.locals) }
     requires is_open { is_shut ledger.old.log ≡ false }
     ensures puts { PutStep D.told D.shown S.told (S.shown store.old) (S.shown store.new)
-        ledger.old ledger.new taken task.old moment result task.new }
+        ledger.old ledger.new seen.now taken task.old moment result task.new }
     ensures notes { PutNotes D.told D.shown S.told (S.shown store.old) (S.shown store.new)
-        ledger.old ledger.new taken task.old result task.new }
+        ledger.old ledger.new seen.now taken task.old result task.new }
 {
     let Ok(pending) = task.pending(alloc, taken) else {
         return Reply::NoMemory;
@@ -43,7 +46,7 @@ pub fn put_step<D: Disk, S: Store>(
         return fault;
     }
     let answer = task.put(alloc, store, moment);
-    let reply = settle(alloc, ledger, task, answer);
+    let reply = settle(alloc, ledger, task, seen, answer);
     let _ = ledger.databases.kept();
     reply
 }

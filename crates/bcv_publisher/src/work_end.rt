@@ -21,8 +21,11 @@ pub(crate) enum Ended {
     By(Reply),
 }
 
-// Notes what becomes of the publication of a task whose request came to this.
-pub(crate) fn end_work<D: Disk>(
+/// Notes what becomes of the publication of a task whose request before its put came to this, and returns the step's reply.
+/// The task goes on where `Working` is answered, and has ended at every other answer. Where it ends while its publication is
+/// pending, void is noted first, and a fault of that note is answered in place of the task's. Where memory ran out in the
+/// request nothing is noted, and the publication stays pending.
+pub fn end_work<D: Disk>(
     alloc: Global,
     ledger: &mut Ledger<D>,
     task: &PublishTask,

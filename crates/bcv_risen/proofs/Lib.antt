@@ -2,5 +2,5 @@ mod SeenFits
 mod Unnamed
 mod CameUp
 mod ComesAgain
-mod StaysDown
+pub mod StaysDown
 mod NamedClient

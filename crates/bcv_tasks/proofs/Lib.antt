@@ -1,3 +1,4 @@
+pub mod KindsWork
 mod CreateLaws
 mod KindPuts
 pub mod Owned

@@ -1,3 +1,4 @@
+pub mod KindsWork
 pub mod State
 pub mod TaskPut
 pub mod TaskWork

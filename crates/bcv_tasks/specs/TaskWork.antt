@@ -1,5 +1,5 @@
 -- A step of a publishing task before the manifest's put: the manifest's get, or a request for a block.
-use Rattle.std.specs.Prelude.{◌≡◌, ◌≢◌, ◌≤◌, ◌⊎◌, ℕ, List, [], ◌++◌, length, Option, Some, None}
+use Rattle.std.specs.Prelude.{◌≡◌, ◌≢◌, ◌≤◌, ◌⊎◌, ℕ, List, ◌++◌, length}
 use Rattle.bcv_base.specs.declared.id.Id16.{Id16}
 use Rattle.bcv_base.specs.declared.log.Entry.{Entry}
 use Rattle.bcv_base.specs.declared.outcome.Outcome.{Outcome}
@@ -15,7 +15,6 @@ use Rattle.bcv_cleanup.specs.CleanupWork as cleaning
 use Rattle.bcv_cleanup.specs.Released.{RuleAnswers}
 use Rattle.bcv_dbcopy.specs.TaskWork as copying
 use Rattle.bcv_dbmap.specs.RequestGrowth.{RequestGrowth}
-use Rattle.bcv_pages.specs.Held.{Held}
 use Rattle.bcv_publish.specs.declared.work.Work.{Work}
 use Rattle.bcv_publish.specs.declared.work.Work.TheVariants as work
 use Rattle.bcv_publish.specs.BlockPut.{AreFresh}
@@ -25,28 +24,8 @@ use Rattle.bcv_store.specs.StoreShown.{StoreTold, StoreShown}
 use Rattle.bcv_tasks.specs.declared.publish_task.PublishTask.{PublishTask}
 use Rattle.bcv_tasks.specs.declared.publish_task.PublishTask.TheVariants as task
 use Rattle.bcv_tasks.specs.State.{Owns, id_of, names_of, refused_of, writer_of}
-use Rattle.bcv_upload.specs.State.{HoldsView, view_in}
-use Rattle.bcv_upload.specs.State as upload
 use Rattle.bcv_upload.specs.UploadWork.{AreFirstPuts, is_fetch}
 use Rattle.bcv_upload.specs.UploadWork as uploading
-
--- ---- what a step is given
-
--- an upload is given the pages of its view, and its base's block size is the one that was seen and the cache's
-pub record SuitsUpload (h : Held) (container : Seen) (c : Blocks) (s : upload.State) : Type 0 where
-  pub view : HoldsView h s
-  pub seen : container.block ≡ Some s.base.block
-  pub cache : c.block ≡ s.base.block
-
-abbrev pub Suits : Option Held → Seen → Blocks → PublishTask → Type 0
-Suits None seen c (task.Upload id s) = ⊥
-Suits (Some h) seen c (task.Upload id s) = SuitsUpload h seen c s
-Suits pages seen c _ = Unit {0}
-
--- the commits of an upload's view, in the pages that are given
-abbrev pub view_given : Option Held → PublishTask → List Writes
-view_given (Some h) (task.Upload id s) = view_in h s.base
-view_given pages _ = []
 
 -- ---- whatever the store
 

@@ -6,6 +6,7 @@
 //! whose fault is answered. Over a sound log that others grow by lawful entries it promises of every task the same: what
 //! others appended, at most one own entry, which is lawful, the outcome of the request, the number of the version that was
 //! published, and that what the task has put stays its own. So a client proves each step once, and not once for each task.
+//! The requests before the put are those of each kind's own crate, and `kinds_work_as_tasks` makes them into a task's.
 #![tactic(auto)]
 
 mod create_task;
@@ -14,9 +15,8 @@ mod laws;
 mod publish_task;
 mod put_answer;
 mod task_put;
-mod task_work;
 
 pub use create_task::CreateTask;
-pub use laws::{owned_stays, puts_keep_names};
+pub use laws::{kinds_work_as_tasks, owned_stays, puts_keep_names};
 pub use publish_task::PublishTask;
 pub use put_answer::PutAnswer;

@@ -9,8 +9,8 @@ use bcv_cleanup::Cleanup;
 use bcv_dbcopy::CopyTask;
 use bcv_upload::Upload;
 
-/// A task that publishes, one request a call: `work` while it is not `ready`, and then `put`. After a publication there is
-/// neither.
+/// A task that publishes, one request a call: the `work` of its kind while it is not `ready`, and then `put`. After a
+/// publication there is neither.
 #[derive(Drop)]
 pub enum PublishTask {
     /// The first manifest of a container.
