@@ -1,14 +1,12 @@
 -- A commit of a client.
-use Rattle.std.proofs.Common.{◌≡◌, ◌≢◌, ◌∙◌, ◌^◌, ◌<◌, ℕ, Bool, true, false, List, Option, Some, None, IfSome, is_none, refl, sym, ap, subst}
+use Rattle.std.proofs.Common.{◌≡◌, ◌∙◌, ◌^◌, ◌<◌, ℕ, false, List, Option, Some, None, IfSome, refl, sym, ap, subst}
 use Rattle.std.specs.List.{AllByRecursion}
 use Rattle.std.proofs.lemmas.Option.{same_Some}
 use Rattle.bcv_base.specs.declared.log.Entry.{Entry}
 use Rattle.bcv_base.specs.declared.seen.Seen.{Seen}
 use Rattle.bcv_base.specs.History.{Item, history_of}
-use Rattle.bcv_base.specs.Image.{Writes}
 use Rattle.bcv_base.specs.Keyed.{keyed, without_keyed}
-use Rattle.bcv_cache.specs.Entry as cache
-use Rattle.bcv_clientlaws.specs.OtherParts.{FitsKept, KeepsTaken, LeavesCommits}
+use Rattle.bcv_clientlaws.specs.OtherParts.{KeepsTaken, LeavesCommits}
 use Rattle.bcv_clientlaws.proofs.OtherParts.{kept_fits}
 use Rattle.bcv_clientlaws.proofs.Taken.{notes_keep_taken}
 use Rattle.bcv_clientlog.specs.LogParts.{is_shut}
@@ -50,11 +48,11 @@ use Rattle.bcv_transaction.specs.Open.{Open}
 use Rattle.bcv_client.specs.ClientForm.{IsInForm}
 use Rattle.bcv_client.specs.ClientParts.{entries_of, parts_of}
 use Rattle.bcv_client.specs.Events.{IsArmed, IsNoEvent, Noting, NotesOver, StandsOver, client_side, client_up}
-use Rattle.bcv_client.specs.LocalWrites.{OnlyLedger}
+use Rattle.bcv_client.specs.LocalWrites.{OnlyWrites}
 use Rattle.bcv_client.specs.declared.client.Client.{Client}
 use Rattle.bcv_client.specs.declared.job.Job.{Job}
 use Rattle.bcv_client.proofs.CommitForm.{commit_form}
-use Rattle.bcv_client.proofs.FirstReasons.{open_to_commit, same_views, there_is}
+use Rattle.bcv_client.proofs.FirstReasons.{open_to_commit, same_views, small_commit, there_is}
 use Rattle.bcv_client.proofs.LedgerParts.{fits_closed, fits_same, ledger_alone, ledger_same, stands_by}
 use Rattle.bcv_client.proofs.MachineSlots.{commits_keep_slots}
 use Rattle.bcv_client.proofs.SetViews.{keeps_slots, keeps_txns}
@@ -67,11 +65,13 @@ module _ {D : Type 0} {g : _} (told : DiskTold) (shown : D → DiskShown) (old n
   commit_views (Some why) from = subst (λ (d : Catalog). KeepsViews old.databases.sets d.sets) (sym from.1.databases) (same_views old.databases.sets)
 
   pub commit_keeps_form : (seen : Seen) (o : Open) (ss : List (Slot Job)) → IsInForm seen old.databases o ss → LedgerCommits told shown old new db c r → IsInForm seen new.databases o ss
-  commit_keeps_form seen o ss form commits = by (commit_reason_in (parts_in old) db (writes_of c)) commits
+  commit_keeps_form seen o ss form commits = by (commit_reason_in (parts_in old) db (writes_of c)) refl commits
     where
-      by : (why : Option Reply) → CommitsFrom told shown old new db c r why → IsInForm seen new.databases o ss
-      by None from = commit_form seen old.databases new.databases o ss form db c from.note from.is_note from.ends.views (fault_of r) from.ends.kept from.ends.knows
-      by (Some why) from = subst (λ (d : Catalog). IsInForm seen d o ss) (sym from.1.databases) form
+      by : (why : Option Reply) → commit_reason_in (parts_in old) db (writes_of c) ≡ why → CommitsFrom told shown old new db c r why → IsInForm seen new.databases o ss
+      by None free from =
+          commit_form seen old.databases new.databases o ss form db c from.note from.is_note from.ends.views (small_commit (parts_in old) db (writes_of c) free) (fault_of r)
+          from.ends.kept from.ends.knows
+      by (Some why) free from = subst (λ (d : Catalog). IsInForm seen d o ss) (sym from.1.databases) form
 
 -- ---- that the client fits
 
@@ -81,7 +81,7 @@ leaves_commits db c x (Some l) b is = subst LeavesCommits (same_Some (note.Commi
 leaves_commits db c x None (Some k) is = subst LeavesCommits (same_Some (note.First k.entry k.number k.block c) x is) tt
 leaves_commits db c x None None is = absurd (let e : None ≡ Some x = is in cc)
 
-module _ {D : Type 0} {g : _} (told : DiskTold) (shown : D → DiskShown) (old new : Client D g) (db : List ℕ) (c : Commit) (only : OnlyLedger old new)
+module _ {D : Type 0} {g : _} (told : DiskTold) (shown : D → DiskShown) (old new : Client D g) (db : List ℕ) (c : Commit) (only : OnlyWrites old new)
     (form : IsInForm old.seen old.ledger.databases old.txns old.tasks.items) (are : AreDatabases new.ledger.databases) (size : c.size < 2 ^ 32) where
   abbrev p : Parts
   p = parts_of old

@@ -1,26 +1,22 @@
 -- The step of a task that fetches a page over a client.
-use Rattle.std.proofs.Common.{◌≡◌, ◌≢◌, ◌∙◌, ◌==◌, ◌≤◌, ◌||◌, ℕ, zero, suc, Bool, true, false, cond, nat_eq, nat_lt, List, [], ◌∷◌, ◌++◌, map, Option, Some, None, IfSome, MatchOption, option_map, refl, sym, ap, subst, arith}
-use Rattle.std.specs.List.{AllByRecursion, IsDistinct}
+use Rattle.std.proofs.Common.{◌≡◌, ◌≢◌, ◌∙◌, ◌==◌, ◌≤◌, ◌||◌, ℕ, Bool, false, nat_eq, nat_lt, List, [], ◌∷◌, map, Option, Some, None, IfSome, MatchOption, option_map, refl, sym, ap, subst, arith}
+use Rattle.std.specs.List.{IsDistinct}
 use Rattle.std.proofs.lemmas.Bool.{le-ltb, ne_eqb, or_from}
 use Rattle.std.proofs.lemmas.Option.{same_Some}
 use Rattle.bcv_base.specs.declared.id.Id16.{Id16}
 use Rattle.bcv_base.specs.declared.log.Entry.{Entry as LogEntry}
 use Rattle.bcv_base.specs.declared.outcome.Outcome.{Outcome}
-use Rattle.bcv_base.specs.declared.outcome.Outcome.TheVariants as outcome
-use Rattle.bcv_base.specs.History.{Item, history_of}
+use Rattle.bcv_base.specs.History.{history_of}
 use Rattle.bcv_base.specs.Views.{view_size}
 use Rattle.bcv_base.specs.declared.seen.TxnBase.{TxnBase}
 use Rattle.bcv_cache.specs.Entry.{Blocks}
-use Rattle.bcv_clientstate.specs.Fits.{Fits}
-use Rattle.bcv_clientstate.specs.Parts.{Parts}
-use Rattle.bcv_clientstate.specs.SeenClient.{Free, seen_up, side_of}
+use Rattle.bcv_clientstate.specs.SeenClient.{seen_up, side_of}
 use Rattle.bcv_databases.specs.Catalog.{Catalog}
 use Rattle.bcv_disk.specs.DiskShown.{DiskShown, DiskTold}
 use Rattle.bcv_machine.specs.Reading.{FetchStepsOf}
 use Rattle.bcv_machine.specs.Refusals.{first_reason, page_reason, page_refusal}
 use Rattle.bcv_machine.specs.Refusals as refusals
 use Rattle.bcv_machine.specs.State as m
-use Rattle.bcv_model.specs.declared.reply.Reply.{Reply}
 use Rattle.bcv_model.specs.declared.reply.Reply.TheVariants as reply
 use Rattle.bcv_pages.specs.Held.{Held}
 use Rattle.bcv_publish.specs.Request.{OverSoundLog}
@@ -46,18 +42,18 @@ use Rattle.bcv_transaction.proofs.StepPlaces.{Gets, gets_of, wants}
 use Rattle.bcv_client.specs.ClientForm.{FetchInForm, IsInForm, IsPageOf}
 use Rattle.bcv_client.specs.ClientParts.{entries_of, parts_of, sets_in}
 use Rattle.bcv_client.specs.Events.{StandsOver, client_side, client_up}
-use Rattle.bcv_client.specs.FetchOver.{ClientFetches, FetchesStep, stepped_reply}
+use Rattle.bcv_client.specs.FetchOver.{stepped_reply}
 use Rattle.bcv_client.specs.PagesFound.{IsPagesOf, PagesOf}
 use Rattle.bcv_client.specs.Steps.{EndsJob}
 use Rattle.bcv_client.specs.TaskParts.{seen_access}
 use Rattle.bcv_client.specs.Transactions.{OnlyTxns}
 use Rattle.bcv_client.specs.declared.client.Client.{Client}
 use Rattle.bcv_client.specs.declared.job.Access.{Access}
-use Rattle.bcv_client.specs.declared.job.Access.TheVariants as access
 use Rattle.bcv_client.specs.declared.job.Job.TheVariants as job
 use Rattle.bcv_client.proofs.FetchRequests.{Requested, requested, steps_under}
 use Rattle.bcv_client.proofs.PagesFound.{is_set_of}
 use Rattle.bcv_client.proofs.PollOver.{none_added}
+use Rattle.bcv_client.proofs.ReadsSaw.{saw_grown}
 use Rattle.bcv_client.proofs.TxnCalls.{comes_stay, differ_open, holds_stay, reads_stay}
 use Rattle.bcv_client.proofs.TxnForms.{StayOpen, block_of, unheld}
 use Rattle.bcv_client.proofs.TxnStands.{are_fit, side_other, stands_for, stands_other}
@@ -199,6 +195,7 @@ module _ {D : Type 0} {g : _} (told : DiskTold) (shown : D → DiskShown) (store
       let now : StandsOver shown old after.log f = record {
         sound = s.growth.sound;
         fits = fits_grown store.alone mine before.log after.log (parts_of old) (entries_of old) s.growth s.no_own stands.sound all stands.fits;
+        saw = saw_grown store.alone mine before.log after.log s.growth old.tasks.items stands.saw;
         journaled = stands.journaled;
         slots = stands.slots;
       } in

@@ -1,5 +1,5 @@
 -- The request of a step that fetches a page: which outcome it had, and that the machine's step goes under it.
-use Rattle.std.proofs.Common.{◌≡◌, ◌≢◌, ◌∙◌, ℕ, Bool, true, false, List, Option, Some, None, refl, sym, ap, subst}
+use Rattle.std.proofs.Common.{◌≡◌, ◌≢◌, ◌∙◌, ℕ, Bool, true, false, List, Option, Some, None, refl, sym, subst}
 use Rattle.std.proofs.lemmas.Option.{same_Some}
 use Rattle.bcv_base.specs.declared.id.Id16.{Id16}
 use Rattle.bcv_base.specs.declared.outcome.Outcome.{Outcome}
@@ -8,7 +8,7 @@ use Rattle.bcv_base.specs.Faults.{Rose}
 use Rattle.bcv_base.specs.History.{history_of}
 use Rattle.bcv_dbmap.specs.Honest.{GrewHonestly}
 use Rattle.bcv_dbmap.specs.Sound.{Sound}
-use Rattle.bcv_machine.specs.Reading.{ComesAtOnce, FetchSteps, FetchStepsOf}
+use Rattle.bcv_machine.specs.Reading.{ComesAtOnce, FetchStepsOf}
 use Rattle.bcv_machine.specs.State.{Access, Side, ToHold, ToRead, Txn, Up, txn_at}
 use Rattle.bcv_model.specs.declared.reply.Reply.{Reply}
 use Rattle.bcv_model.specs.declared.reply.Reply.TheVariants as reply
@@ -23,7 +23,7 @@ use Rattle.bcv_transaction.specs.declared.answers.Came.TheVariants as came
 use Rattle.bcv_transaction.specs.declared.answers.Stepped.{Stepped}
 use Rattle.bcv_transaction.specs.declared.answers.Stepped.TheVariants as stepped
 use Rattle.bcv_transaction.specs.Open.{Open}
-use Rattle.bcv_transaction.specs.StepCalls.{Brings, ComesAs, GoesAfter, GoesOn, IsAgain, StepSays, Steps, kept_out}
+use Rattle.bcv_transaction.specs.StepCalls.{Brings, ComesAs, GoesAfter, GoesOn, StepSays, Steps}
 use Rattle.bcv_transaction.specs.StepSides.{StepsAs}
 use Rattle.bcv_transaction.proofs.StepPlaces.{Gets, gets_of}
 

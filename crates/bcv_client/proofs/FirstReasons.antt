@@ -1,5 +1,5 @@
 -- What holds where nothing speaks against a call.
-use Rattle.std.proofs.Common.{◌≡◌, ◌∙◌, ℕ, Bool, true, false, not, List, [], ◌∷◌, Option, Some, None, is_none, is_some, option_and_then, refl, sym, ap, subst}
+use Rattle.std.proofs.Common.{◌≡◌, ◌∙◌, ℕ, Bool, true, false, not, List, [], ◌∷◌, Option, Some, None, is_none, is_some, option_and_then, refl, ap, subst}
 use Rattle.std.specs.Option.{option_map}
 use Rattle.bcv_base.specs.Keyed.{keyed}
 use Rattle.bcv_clientstate.specs.PartRefusals.{bad_commit, commit_reason_in, has_local_in, large_commit, part_view_in, revert_reason_in}
@@ -33,6 +33,16 @@ open_to_commit l db w none =
     let last = (bad_commit w (part_view_in l db), reply.BadPage) ∷ (large_commit w (part_view_in l db), reply.TooLarge) ∷ [] in
     let a = none_first l.closed reply.Closed ((is_none (part_view_in l db), reply.NoDatabase) ∷ last) none in
     (a.0, (none_first (is_none (part_view_in l db)) reply.NoDatabase last a.1).0)
+
+-- and does not make its database too large
+pub small_commit : (l : LedgerParts) (db : List ℕ) (w : Writes) → commit_reason_in l db w ≡ None → large_commit w (part_view_in l db) ≡ false
+small_commit l db w none =
+    let large = (large_commit w (part_view_in l db), reply.TooLarge) ∷ [] in
+    let bad = (bad_commit w (part_view_in l db), reply.BadPage) ∷ large in
+    let a = none_first l.closed reply.Closed ((is_none (part_view_in l db), reply.NoDatabase) ∷ bad) none in
+    let b = none_first (is_none (part_view_in l db)) reply.NoDatabase bad a.1 in
+    let d = none_first (bad_commit w (part_view_in l db)) reply.BadPage large b.1 in
+    (none_first (large_commit w (part_view_in l db)) reply.TooLarge [] d.1).0
 
 -- a revert that is not refused is one of an open log, and nothing publishes
 pub free_to_revert : (l : LedgerParts) (busy : Bool) (db : List ℕ) → revert_reason_in l busy db ≡ None → (l.closed ≡ false) × (busy ≡ false)

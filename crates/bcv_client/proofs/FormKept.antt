@@ -1,12 +1,10 @@
 -- A client stays in form where its databases change as under a commit.
-use Rattle.std.proofs.Common.{◌≡◌, ◌∙◌, ◌≤◌, ℕ, Bool, true, false, List, [], ◌∷◌, ◌++◌, length, map, Option, Some, None, IfSome, is_some, refl, sym, ap, subst}
+use Rattle.std.proofs.Common.{◌≡◌, ◌∙◌, ℕ, List, [], ◌∷◌, Option, Some, None, IfSome, is_some, sym, ap, subst}
 use Rattle.std.specs.List.{AllByRecursion}
 use Rattle.bcv_base.specs.declared.seen.Seen.{Seen}
 use Rattle.bcv_clientlaws.specs.Different.{AtMostOne}
-use Rattle.bcv_clientstate.specs.Parts as parts
 use Rattle.bcv_databases.specs.Catalog.{Catalog}
 use Rattle.bcv_databases.specs.Sound.{CanUpload, KeepsViews}
-use Rattle.bcv_model.specs.declared.kept.Local.{Local}
 use Rattle.bcv_model.specs.declared.kept.PendingPub.{PendingPub}
 use Rattle.bcv_model.specs.declared.kept.Uploading.{Uploading}
 use Rattle.bcv_slots.specs.declared.Slot.{Slot}
@@ -14,15 +12,12 @@ use Rattle.bcv_tasks.specs.declared.publish_task.PublishTask.{PublishTask}
 use Rattle.bcv_tasks.specs.declared.publish_task.PublishTask.TheVariants as task
 use Rattle.bcv_tasks.specs.State.{pending_of, refused_of, upload_of}
 use Rattle.bcv_transaction.specs.Open.{Open}
-use Rattle.bcv_upload.specs.State.{HoldsView}
-use Rattle.bcv_upload.specs.State as upload
 use Rattle.bcv_upload.specs.BlockText.{IsViewOf}
 use Rattle.bcv_base.specs.Image.{Writes}
 use Rattle.bcv_client.specs.ClientForm.{HasSize, IsInForm, JobInForm, PendingFor, ViewInForm}
-use Rattle.bcv_client.specs.TaskParts.{task_part}
 use Rattle.bcv_client.specs.declared.job.Job.{Job}
 use Rattle.bcv_client.specs.declared.job.Job.TheVariants as job
-use Rattle.bcv_client.proofs.SetViews.{KeepsTask, all_read_still, keeps_slots, keeps_txns, tasks_same}
+use Rattle.bcv_client.proofs.SetViews.{all_read_still, keeps_slots, keeps_txns, tasks_same}
 
 -- what tasks rely on stays: what is pending, what can be uploaded, and the views
 pub record LeavesTasks (c d : Catalog) : Type 0 where
@@ -60,6 +55,7 @@ module _ (c d : Catalog) (seen : Seen) (o : Open) (leaves : LeavesTasks c d) whe
   still_job (job.Publish set taken t) form = record {
     running = form.running;
     waits = subst (λ (x : Option PendingPub). PendingFor x (pending_of taken t) (refused_of t)) (sym leaves.pending) form.waits;
+    again = form.again;
     upload = still_uploads (upload_of taken t) form.upload;
     view = still_view set taken t form.view;
   }

@@ -1,5 +1,5 @@
 -- A client of which nothing has changed but the ledger.
-use Rattle.std.proofs.Common.{◌≡◌, ◌∙◌, ℕ, Bool, true, false, List, [], ◌∷◌, map, Option, Some, None, IfSome, refl, sym, ap, subst}
+use Rattle.std.proofs.Common.{◌≡◌, ◌∙◌, Bool, List, Option, sym, ap, subst}
 use Rattle.std.specs.List.{AllByRecursion}
 use Rattle.bcv_base.specs.declared.id.Id16.{Id16}
 use Rattle.bcv_base.specs.declared.log.Entry.{Entry}
@@ -15,22 +15,22 @@ use Rattle.bcv_databases.specs.Catalog.{Catalog}
 use Rattle.bcv_databases.specs.declared.known.Known.{Known}
 use Rattle.bcv_disk.specs.DiskShown.{DiskShown}
 use Rattle.bcv_ledger.specs.LedgerNotes.{parts_in}
-use Rattle.bcv_ledger.specs.declared.ledger.Ledger.{Ledger}
 use Rattle.bcv_model.specs.declared.kept.Kept.{Kept}
 use Rattle.bcv_slots.specs.declared.Slot.{Slot}
 use Rattle.bcv_transaction.specs.Open.{Open}
 use Rattle.bcv_client.specs.ClientForm.{IsInForm}
 use Rattle.bcv_client.specs.ClientParts.{entries_in, entries_of, parts_of}
 use Rattle.bcv_client.specs.Events.{StandsOver}
-use Rattle.bcv_client.specs.LocalWrites.{OnlyLedger}
+use Rattle.bcv_client.specs.LocalWrites.{OnlyWrites}
 use Rattle.bcv_client.specs.declared.client.Client.{Client}
 use Rattle.bcv_client.specs.declared.job.Job.{Job}
+use Rattle.bcv_client.proofs.ReadsSaw.{saw_same}
 use Rattle.bcv_client.proofs.SameParts.{parts_by}
 use Rattle.bcv_client.proofs.SetViews.{KeepsSlot, KeepsTxn, tasks_same, txns_same}
 
 -- ---- the parts
 
-module _ {D : Type 0} {g : _} (old new : Client D g) (only : OnlyLedger old new) where
+module _ {D : Type 0} {g : _} (old new : Client D g) (only : OnlyWrites old new) where
   abbrev p : Parts
   p = parts_of old
 
@@ -57,6 +57,7 @@ module _ {D : Type 0} {g : _} (old new : Client D g) (only : OnlyLedger old new)
     fits =
         subst (λ (q : Parts). Fits q (entries_of new) log) (sym is)
         (subst (λ (o : Open). Fits (with_ledger (parts_in new.ledger) p) (entries_in o.cache) log) (sym only.txns) fits);
+    saw = saw_same (history_of log) old.tasks.items new.tasks.items only.tasks stands.saw;
     journaled = journaled;
     slots = slots ∙ stands.slots ∙ sym (ap (λ (o : Open). o.slots) only.txns);
   }

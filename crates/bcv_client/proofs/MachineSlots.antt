@@ -1,5 +1,5 @@
 -- A commit and a revert of the machine leave a client its slots.
-use Rattle.std.proofs.Common.{◌≡◌, ℕ, List, Option, Some, None, refl, ap}
+use Rattle.std.proofs.Common.{◌≡◌, ℕ, List, Option, Some, None, ap}
 use Rattle.bcv_base.specs.Image.{Writes}
 use Rattle.bcv_base.specs.Keyed.{keyed}
 use Rattle.bcv_machine.specs.LocalWriting.{Commits, CommitsOver, NotesLocally, Reverts, RevertsFrom, with_known, without_known}

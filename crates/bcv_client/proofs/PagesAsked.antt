@@ -1,5 +1,5 @@
 -- A read and a hold are events of the machine: what comes at once is answered, and a page that has to be fetched starts a task.
-use Rattle.std.proofs.Common.{◌≡◌, ◌∙◌, ◌==◌, ℕ, Bool, true, false, cond, nat_le, List, [], ◌∷◌, ◌++◌, map, length, find, Option, Some, None, option_map, refl, sym, ap, subst, inl, inr}
+use Rattle.std.proofs.Common.{◌≡◌, ◌∙◌, ◌==◌, ℕ, true, false, nat_le, List, [], ◌∷◌, ◌++◌, map, length, find, Option, Some, None, refl, sym, ap, subst, inl, inr}
 use Rattle.std.specs.Global.{Vec}
 use Rattle.std.proofs.lemmas.Bool.{cases_Bool, eqb-true}
 use Rattle.std.proofs.lemmas.Option.{same_Some}
@@ -18,7 +18,7 @@ use Rattle.bcv_clientlaws.proofs.TaskStarts.{fetch_starts, quiet_task_fits, refu
 use Rattle.bcv_clientstate.specs.Fits.{Fits}
 use Rattle.bcv_clientstate.specs.Journaled.{Journaled}
 use Rattle.bcv_clientstate.specs.Parts.{Fetching, Parts, Task}
-use Rattle.bcv_clientstate.specs.SeenClient.{Free, seen_up, side_of}
+use Rattle.bcv_clientstate.specs.SeenClient.{Free, side_of}
 use Rattle.bcv_clientstate.specs.StartRefusals.{runs_all}
 use Rattle.bcv_clientstate.proofs.PartRefusals.{map_len}
 use Rattle.bcv_disk.specs.DiskShown.{DiskShown}
@@ -33,12 +33,12 @@ use Rattle.bcv_slots.specs.declared.Slot.{Slot}
 use Rattle.bcv_slots.specs.Numbered.{least_free, numbers_of}
 use Rattle.bcv_transaction.specs.declared.answers.Came.{Came}
 use Rattle.bcv_transaction.specs.declared.answers.Came.TheVariants as came
-use Rattle.bcv_transaction.specs.MachineCalls.{Comes, WantsTask}
+use Rattle.bcv_transaction.specs.MachineCalls.{WantsTask}
 use Rattle.bcv_transaction.specs.Open.{Open}
 use Rattle.bcv_transaction.specs.StepCalls.{PageCalls}
 use Rattle.bcv_client.specs.ClientParts.{entries_in, entries_of, parts_of, seen_access, task_part}
 use Rattle.bcv_client.specs.InForm.{InForm}
-use Rattle.bcv_client.specs.Events.{GoesBy, IsNoEvent, Locally, LocallyOver, StandsOver, client_side, client_up}
+use Rattle.bcv_client.specs.Events.{IsNoEvent, Locally, LocallyOver, StandsOver, client_side, client_up}
 use Rattle.bcv_client.specs.PagesFound.{ComesAt, ComesOver}
 use Rattle.bcv_client.specs.TaskStarts.{OnlyTasks, StartsLast}
 use Rattle.bcv_client.specs.Transactions.{AnswersPage, AsksPage, OnlyReading, OnlyTxns, came_reply, pages_for}
@@ -46,6 +46,7 @@ use Rattle.bcv_client.specs.declared.client.Client.{Client}
 use Rattle.bcv_client.specs.declared.job.Access.{Access as JobAccess}
 use Rattle.bcv_client.specs.declared.job.Job.{Job}
 use Rattle.bcv_client.specs.declared.job.Job.TheVariants as job
+use Rattle.bcv_client.proofs.ReadsSaw.{SawAll, saw_more, saw_same}
 use Rattle.bcv_client.proofs.TxnStands.{parts_from}
 
 -- ---- the client with other tasks
@@ -70,10 +71,11 @@ module _ {D : Type 0} {g : _} (mid new : Client D g) (only : OnlyTasks mid new) 
       ∙ ap (λ (ts : List Task). record (parts_of mid) { tasks = ts }) (map_append (task_part mid.ledger.databases) mid.tasks.items (record { number = n; item = j } ∷ []))
 
   -- it stands as it stood, where its parts fit
-  stands_by : (shown : D → DiskShown) (log : List LogEntry) (f : Free) (q : Parts) → StandsOver shown mid log f → parts_of new ≡ q → Fits q (entries_of mid) log → StandsOver shown new log f
-  stands_by shown log f q stands is fits = record {
+  stands_by : (shown : D → DiskShown) (log : List LogEntry) (f : Free) (q : Parts) → StandsOver shown mid log f → parts_of new ≡ q → Fits q (entries_of mid) log → SawAll (history_of log) new.tasks.items → StandsOver shown new log f
+  stands_by shown log f q stands is fits saw = record {
     sound = stands.sound;
     fits = subst (λ (p : Parts). Fits p (entries_of new) log) (sym is) (subst (λ (es : List cache.Entry). Fits q es log) (sym (ap (λ (o : Open). entries_in o.cache) only.txns)) fits);
+    saw = saw;
     journaled = subst (λ (l : Ledger D g). Journaled shown l.log l.databases.kept f) (sym only.ledger) stands.journaled;
     slots = stands.slots ∙ sym (ap (λ (o : Open). o.slots) only.txns);
   }
@@ -113,7 +115,7 @@ module _ {D : Type 0} {g : _} (shown : D → DiskShown) (old mid new : Client D 
   answered : (r : Reply) → new.tasks.items ≡ mid.tasks.items → StandsOver shown mid log f → (IsNoEvent r → ⊥)
       → Goes r (client_side moment log old f) (client_up log old) (client_side moment log mid f) → Ends r
   answered r same stands is goes = record {
-    stands = stands_by mid new only shown log f (parts_of mid) stands (parts_same mid new only same) stands.fits;
+    stands = stands_by mid new only shown log f (parts_of mid) stands (parts_same mid new only same) stands.fits (saw_same (history_of log) mid.tasks.items new.tasks.items same stands.saw);
     goes = record {
       event = λ no. subst (λ (q : Parts). Goes r (client_side moment log old f) (client_up log old) (side_of moment (history_of log) q f)) (sym (parts_same mid new only same)) goes;
       still = λ none. absurd (is none);
@@ -123,7 +125,7 @@ module _ {D : Type 0} {g : _} (shown : D → DiskShown) (old mid new : Client D 
   -- nothing has happened
   unmoved : (r : Reply) → new.tasks.items ≡ mid.tasks.items → StandsOver shown mid log f → IsNoEvent r → client_side moment log mid f ≡ client_side moment log old f → Ends r
   unmoved r same stands is still = record {
-    stands = stands_by mid new only shown log f (parts_of mid) stands (parts_same mid new only same) stands.fits;
+    stands = stands_by mid new only shown log f (parts_of mid) stands (parts_same mid new only same) stands.fits (saw_same (history_of log) mid.tasks.items new.tasks.items same stands.saw);
     goes = record {
       event = λ no. absurd (no is);
       still = λ none. ap (λ (q : Parts). side_of moment (history_of log) q f) (parts_same mid new only same) ∙ still;
@@ -155,7 +157,8 @@ module _ {D : Type 0} {g : _} (shown : D → DiskShown) (old mid new : Client D 
       let before = from_old (reply.Task k 1) _ wants.same x named in
       let whole = fetches_so (seen_access access) (client_side moment log old f) (client_up log old) n p x (reply.Task k 1) _ wants.passes wants.is_open before in
       record {
-        stands = stands_by mid new only shown log f _ stands more (quiet_task_fits log (parts_of mid) (entries_of mid) k (Fetching (seen_access access) n p) stands.fits refl);
+        stands = stands_by mid new only shown log f _ stands more (quiet_task_fits log (parts_of mid) (entries_of mid) k (Fetching (seen_access access) n p) stands.fits refl)
+            (saw_same past _ new.tasks.items starts.3 (saw_more past mid.tasks.items (record { number = k; item = job.Fetch access n p }) stands.saw tt));
         goes = record {
           event = λ no. subst (λ (q : Parts). Goes (reply.Task k left) (client_side moment log old f) (client_up log old) (side_of moment past q f)) (sym more)
               (subst (λ (l : ℕ). Goes (reply.Task k l) (client_side moment log old f) (client_up log old) (side_of moment past (with_new_task k (Fetching (seen_access access) n p) (parts_of mid)) f)) (sym starts.2) whole);

@@ -1,10 +1,10 @@
 -- A page that comes without a request, or does not, over every log that the client stands over.
-use Rattle.std.proofs.Common.{◌≡◌, ◌∙◌, ℕ, List, Option, Some, None, option_map, refl, sym, ap, subst}
+use Rattle.std.proofs.Common.{◌≡◌, ◌∙◌, ℕ, List, Option, None, option_map, refl, sym, ap, subst}
 use Rattle.bcv_base.specs.declared.log.Entry.{Entry as LogEntry}
 use Rattle.bcv_base.specs.History.{Item, history_of}
-use Rattle.bcv_clientstate.specs.SeenClient.{Free, seen_txn}
+use Rattle.bcv_clientstate.specs.SeenClient.{Free}
 use Rattle.bcv_disk.specs.DiskShown.{DiskShown}
-use Rattle.bcv_machine.specs.Reading.{Fetches, FetchesOf, Looks, Shows}
+use Rattle.bcv_machine.specs.Reading.{FetchesOf, Shows}
 use Rattle.bcv_machine.specs.Refusals.{UnlessRefused, look_reason, page_reason}
 use Rattle.bcv_machine.specs.State as m
 use Rattle.bcv_machine.specs.State.{Access, Side, Up, with_up}
@@ -14,8 +14,7 @@ use Rattle.bcv_snapshot.specs.declared.look.Look.{Look}
 use Rattle.bcv_snapshot.specs.declared.look.Look.TheVariants as look
 use Rattle.bcv_transaction.specs.declared.answers.Came.{Came}
 use Rattle.bcv_transaction.specs.declared.answers.Came.TheVariants as came
-use Rattle.bcv_transaction.specs.declared.open_txn.OpenTxn.{OpenTxn}
-use Rattle.bcv_transaction.specs.MachineCalls.{Comes, IsSetOf, LooksAs, StandsFor, open_part, side_with}
+use Rattle.bcv_transaction.specs.MachineCalls.{Comes, IsSetOf, LooksAs, StandsFor, side_with}
 use Rattle.bcv_transaction.specs.Open.{AreOpen, txn_at}
 use Rattle.bcv_transaction.specs.StepCalls.{PageCalls}
 use Rattle.bcv_transaction.proofs.FitLaws.{calls_leave_fit}

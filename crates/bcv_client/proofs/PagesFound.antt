@@ -1,5 +1,5 @@
 -- The set of pages of a transaction is found, and a page that has to be fetched is one of the transaction's.
-use Rattle.std.proofs.Common.{◌≡◌, ◌∙◌, ◌≤◌, ◌&&◌, ℕ, Bool, true, false, cond, nat_le, List, Option, Some, None, IfSome, MatchOption, option_map, refl, sym, ap, subst}
+use Rattle.std.proofs.Common.{◌≡◌, ◌∙◌, ◌≤◌, ℕ, Bool, true, false, cond, nat_le, Option, Some, None, IfSome, MatchOption, option_map, refl, sym, ap, subst}
 use Rattle.std.specs.Prelude.{unwrap_or}
 use Rattle.std.specs.List.{AllByRecursion}
 use Rattle.std.proofs.lemmas.Bool.{and_parts, leb-true}
@@ -18,7 +18,7 @@ use Rattle.bcv_transaction.specs.declared.open_txn.OpenTxn.{OpenTxn}
 use Rattle.bcv_transaction.specs.ListCalls.{HoldsIn, HoldsOf, ReadsIn, ReadsOf}
 use Rattle.bcv_transaction.specs.MachineCalls.{IsSetOf}
 use Rattle.bcv_transaction.specs.Open.{AreOpen, CanRead, Open, base_in, base_view, is_numbered, set_in, txn_at, view_in}
-use Rattle.bcv_transaction.specs.OpenCalls.{CacheCalls, CallsIn}
+use Rattle.bcv_transaction.specs.OpenCalls.{CacheCalls}
 use Rattle.bcv_transaction.specs.StepCalls.{PageCalls}
 use Rattle.bcv_transaction.proofs.MachinePages.{one_of}
 use Rattle.bcv_transaction.proofs.StepPlaces.{IsAway, wants}

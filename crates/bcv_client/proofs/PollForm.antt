@@ -1,26 +1,21 @@
 -- A client stays in form once a manifest was read and is known.
-use Rattle.std.proofs.Common.{◌≡◌, ◌∙◌, ◌==◌, ℕ, Bool, true, false, not, cond, nat_lt, eqb-true, List, [], ◌∷◌, map, Option, Some, None, IfSome, unwrap_or, inl, inr, refl, sym, ap, subst}
+use Rattle.std.proofs.Common.{◌≡◌, ◌∙◌, ℕ, Bool, true, false, cond, nat_lt, List, [], ◌∷◌, Option, Some, None, IfSome, inl, inr, refl, sym, ap, subst}
 use Rattle.std.specs.List.{AllByRecursion}
 use Rattle.std.proofs.lemmas.Option.{same_Some}
-use Rattle.bcv_base.specs.declared.manifest.Manifest.{Manifest}
 use Rattle.bcv_base.specs.declared.seen.Latest.{Latest}
 use Rattle.bcv_base.specs.declared.seen.Seen.{Seen}
 use Rattle.bcv_base.specs.ManifestRules.{MeetsRules, is_block_size}
-use Rattle.bcv_cache.specs.Entry.{Blocks}
-use Rattle.bcv_clientlaws.specs.Forms.{AreInForm, KnownInForm, LocalInForm, PendingInForm, UploadInForm}
+use Rattle.bcv_clientlaws.specs.Forms.{AreInForm}
 use Rattle.bcv_clientlaws.proofs.DatabaseForms.{reads_keep_form}
 use Rattle.bcv_clientstate.specs.KnownLaws.{known_of}
 use Rattle.bcv_databases.specs.Catalog.{Catalog, set_at}
-use Rattle.bcv_databases.specs.Sound.{AreDatabases, CanEnd, CanUpload, KeepsViews}
+use Rattle.bcv_databases.specs.Sound.{CanEnd, CanUpload, KeepsViews}
 use Rattle.bcv_databases.specs.declared.known.Known.{Known}
 use Rattle.bcv_model.specs.declared.kept.Kept.{Kept}
-use Rattle.bcv_model.specs.declared.kept.Local.{Local}
-use Rattle.bcv_model.specs.declared.kept.PendingPub.{PendingPub}
-use Rattle.bcv_model.specs.declared.kept.Uploading.{Uploading}
 use Rattle.bcv_model.specs.declared.reply.Reply.{Reply}
 use Rattle.bcv_model.specs.declared.reply.Reply.TheVariants as reply
 use Rattle.bcv_pages.specs.Held.{Held}
-use Rattle.bcv_poller.specs.ManifestPoll.{FollowsSeen, unlike_seen}
+use Rattle.bcv_poller.specs.ManifestPoll.{FollowsSeen}
 use Rattle.bcv_publish.specs.ManifestRead.{is_other}
 use Rattle.bcv_publisher.specs.PollStep.{IsReadForm, IsUnread, KnowsRead, PollLeaves, WasSeen, seen_with}
 use Rattle.bcv_slots.specs.declared.Slot.{Slot}
@@ -30,13 +25,10 @@ use Rattle.bcv_transaction.specs.Open.{Open}
 use Rattle.bcv_client.specs.ClientForm.{HasSize, IsInForm, JobInForm, ViewInForm}
 use Rattle.bcv_client.specs.declared.job.Job.{Job}
 use Rattle.bcv_client.specs.declared.job.Job.TheVariants as job
+use Rattle.bcv_client.proofs.BlockSizes.{IsAlike, alike_other, sized}
 use Rattle.bcv_client.proofs.FormKept.{form_stays}
 
 -- ---- what was seen
-
--- the manifest has the block size that was seen
-abbrev pub IsAlike : Option ℕ → ℕ → Type 0
-IsAlike b block = IfSome b (λ (n : ℕ). block ≡ n)
 
 alike_read : (b : Option ℕ) (block : ℕ) → b ≡ Some block → IsAlike b block
 alike_read None block is = tt
@@ -50,44 +42,12 @@ not_other : (past other : Bool) → ◌≡◌ {A = Option ℕ} (cond past (Some 
 not_other false other e = other_by other e
 not_other true other e = absurd (let x : ◌≡◌ {A = Option ℕ} (Some 8) None = e in cc)
 
-alike_other : (b : Option ℕ) (block : ℕ) → is_other b block ≡ false → IsAlike b block
-alike_other None block same = tt
-alike_other (Some n) block same = elim (n == block) as (λ (t : Bool). n == block ≡ t → not t ≡ false → block ≡ n) [
-  | true ↦ λ is e. sym (eqb-true n block is)
-  | false ↦ λ is e. absurd (let x : true ≡ false = e in cc)
-] refl same
-
 alike_new : (s : Seen) (x : Latest) → FollowsSeen s x → IsAlike s.block x.manifest.block
 alike_new s x follows = alike_other s.block x.manifest.block (not_other (nat_lt x.manifest.number s.number) (is_other s.block x.manifest.block) follows.like)
 
 -- what was seen and read is as before
 pub read_still : (s t : Seen) (k l : Option Latest) → t ≡ s → l ≡ k → IsReadForm s k → IsReadForm t l
 read_still s t k l sees keeps form = subst (λ (x : Option Latest). IsReadForm t x) (sym keeps) (subst (λ (y : Seen). IsReadForm y k) (sym sees) form)
-
--- ---- the size
-
--- where no databases have commits, none is uploaded
-no_upload : (block : ℕ) (locals : List Local) (x : Option PendingPub) → locals ≡ [] → CanEnd locals x → IfSome x (PendingInForm block)
-no_upload block locals None none can = tt
-no_upload block locals (Some p) none can = by p.upload can
-  where
-    by : (u : Option Uploading) → IfSome u (CanUpload locals) → IfSome u (UploadInForm block)
-    by None h = tt
-    by (Some u) h = absurd (let c : CanUpload [] u = subst (λ (ls : List Local). CanUpload ls u) none h in let e : None ≡ Some c.local = c.is_local in cc)
-
--- all have the size of the manifest, once it is seen
-sized : (b : Option ℕ) (block : ℕ) (c : Catalog) (blocks : Option Blocks) → is_block_size block ≡ true → IsAlike b block → CanEnd c.kept.locals c.kept.pending → HasSize b c blocks
-    → HasSize (Some block) c blocks
-sized None block c blocks valid alike can size = (
-  valid,
-  record {
-    locals = subst (λ (ls : List Local). AllByRecursion (LocalInForm block) ls) (sym size.0) tt;
-    known = subst (λ (ks : List Known). AllByRecursion (KnownInForm block) ks) (sym size.1) tt;
-    pending = no_upload block c.kept.locals c.kept.pending size.0 can;
-  },
-  subst (λ (x : Option Blocks). IfSome x (λ (y : Blocks). y.block ≡ block)) (sym size.2) tt,
-)
-sized (Some n) block c blocks valid alike can size = subst (λ (k : ℕ). HasSize (Some k) c blocks) (sym alike) size
 
 -- ---- the tasks
 
@@ -111,7 +71,7 @@ module _ (c : Catalog) (s t : Seen) (block : ℕ) (o : Open) (valid : is_block_s
   still_job (job.Fetch access txn page) form = form
   still_job job.Poll form = tt
   still_job (job.Publish set taken u) form =
-      record { running = form.running; waits = form.waits; upload = form.upload; view = still_view set taken u form.view }
+      record { running = form.running; waits = form.waits; again = form.again; upload = form.upload; view = still_view set taken u form.view }
   still_job job.Resolve form = form
 
   still_jobs : (ss : List (Slot Job)) → AllByRecursion (λ (x : Slot Job). JobInForm s c o x.item) ss → AllByRecursion (λ (x : Slot Job). JobInForm t c o x.item) ss

@@ -1,11 +1,10 @@
 -- The step of a poll over a client.
-use Rattle.std.proofs.Common.{◌≡◌, ◌≢◌, ◌∙◌, ◌==◌, ℕ, Bool, true, false, cond, eq-eqb, List, [], ◌∷◌, ◌++◌, map, Option, Some, None, unwrap_or, refl, sym, ap, subst}
+use Rattle.std.proofs.Common.{◌≡◌, ◌≢◌, ◌∙◌, ℕ, Bool, true, false, cond, eq-eqb, List, [], ◌∷◌, ◌++◌, map, Option, Some, None, unwrap_or, refl, sym, ap, subst}
+use Rattle.std.specs.Global.{Vec}
 use Rattle.bcv_base.specs.declared.id.Id16.{Id16}
 use Rattle.bcv_base.specs.declared.log.Entry.{Entry}
 use Rattle.bcv_base.specs.declared.outcome.Outcome.{Outcome}
 use Rattle.bcv_base.specs.declared.outcome.Outcome.TheVariants as outcome
-use Rattle.bcv_base.specs.declared.seen.Latest.{Latest}
-use Rattle.bcv_base.specs.declared.seen.Seen.{Seen}
 use Rattle.bcv_base.specs.History.{Item, history_of}
 use Rattle.bcv_clientlog.specs.declared.log.ClientLog.{ClientLog}
 use Rattle.bcv_clientstate.specs.Fits.{Fits}
@@ -25,22 +24,22 @@ use Rattle.bcv_model.specs.declared.reply.Reply.{Reply}
 use Rattle.bcv_model.specs.declared.reply.Reply.TheVariants as reply
 use Rattle.bcv_pages.specs.Held.{Held}
 use Rattle.bcv_publication.specs.TaskSides.{job_of}
-use Rattle.bcv_publisher.specs.PollStep.{PollSays, PollStep, reading}
+use Rattle.bcv_publisher.specs.PollStep.{PollStep, reading}
 use Rattle.bcv_publisher.specs.PutStep.{version_added}
 use Rattle.bcv_client.proofs.OthersGrew.{grown_by_others}
 use Rattle.bcv_slots.specs.declared.Slot.{Slot}
 use Rattle.bcv_store.specs.StoreShown.{StoreShown, StoreTold}
-use Rattle.bcv_tasks.specs.declared.publish_task.PublishTask.TheVariants as task
 use Rattle.bcv_transaction.specs.MachineCalls.{open_part}
 use Rattle.bcv_transaction.specs.Open.{Open}
 use Rattle.bcv_client.specs.ClientParts.{entries_of, parts_of}
 use Rattle.bcv_client.specs.Events.{StandsOver}
 use Rattle.bcv_client.specs.PollOver.{OnlyReads}
 use Rattle.bcv_client.specs.Steps.{EndsJob}
-use Rattle.bcv_client.specs.TaskParts.{done_by, entries_in, no_set, sets_in, task_part, task_view}
+use Rattle.bcv_client.specs.TaskParts.{done_by, entries_in, no_set, task_part, task_view}
 use Rattle.bcv_client.specs.declared.client.Client.{Client}
 use Rattle.bcv_client.specs.declared.job.Job.{Job}
 use Rattle.bcv_client.specs.declared.job.Job.TheVariants as job
+use Rattle.bcv_client.proofs.ReadsSaw.{SawAll, saw_grown, saw_same}
 use Rattle.bcv_client.proofs.SameParts.{parts_by}
 
 -- ---- what is published
@@ -85,10 +84,11 @@ module _ {D : Type 0} {g : _} (told : DiskTold) (shown : D → DiskShown) (store
       ∙ ap (λ (ss : List (Option Held)). record (parts_by old.id new.ledger new.seen new.latest old.txns old.tasks.items) { txns = map (open_part (λ (place : ℕ). unwrap_or (set_at ss place) no_set)) old.txns.txns }) polls.sets
       ∙ ap (λ (x : List parts.Task). record next { tasks = x }) (tasks_equal old.ledger.databases new.ledger.databases polls.sets old.tasks.items)
 
-  stands_after : (log : List Entry) (f : Free) (was : List Entry) → StandsOver shown old was f → IsSoundLog log → Fits next (entries_of old) log → StandsOver shown new log f
-  stands_after log f was stands sound fits = record {
+  stands_after : (log : List Entry) (f : Free) (was : List Entry) → StandsOver shown old was f → IsSoundLog log → Fits next (entries_of old) log → SawAll (history_of log) old.tasks.items → StandsOver shown new log f
+  stands_after log f was stands sound fits saw = record {
     sound = sound;
     fits = subst (λ (p : Parts). Fits p (entries_of new) log) (sym parts_read) (subst (λ (o : Open). Fits next (entries_in o.cache) log) (sym only.txns) fits);
+    saw = saw_same (history_of log) old.tasks.items new.tasks.items (ap (λ (ts : Vec (Slot Job)). ts.items) only.tasks) saw;
     journaled =
         subst (λ (l : ClientLog D _). Journaled shown l new.ledger.databases.kept f) (sym polls.log)
         (subst (λ (k : Kept). Journaled shown old.ledger.log k f) (sym polls.kept) stands.journaled);
@@ -102,7 +102,7 @@ module _ {D : Type 0} {g : _} (told : DiskTold) (shown : D → DiskShown) (store
       record {
         growth = says.growth;
         free = f;
-        stands = stands_after after.log f before.log stands says.growth.sound says.fits;
+        stands = stands_after after.log f before.log stands says.growth.sound says.fits (saw_grown store.alone mine before.log after.log says.growth old.tasks.items stands.saw);
         event = λ memory. record {
           made = true;
           request = says.request;

@@ -1,5 +1,5 @@
 -- A publication that starts, or is refused.
-use Rattle.std.proofs.Common.{◌≡◌, ◌∙◌, ◌++◌, ◌<◌, vec_capacity, vec_len, ℕ, Bool, true, false, cond, nat_le, List, [], ◌∷◌, length, Option, Some, None, IfSome, Result, Ok, Err, is_some, option_map, refl, sym, ap, subst}
+use Rattle.std.proofs.Common.{◌≡◌, ◌⊎◌, ◌∙◌, ◌++◌, ◌<◌, vec_capacity, vec_len, ℕ, Bool, true, false, cond, nat_le, List, [], ◌∷◌, length, Option, Some, None, IfSome, Result, Ok, Err, is_some, option_map, inl, refl, sym, ap, subst}
 use Rattle.bcv_base.specs.declared.id.Id16.{Id16}
 use Rattle.bcv_base.specs.declared.log.Entry.{Entry}
 use Rattle.bcv_base.specs.declared.names.Draw.TheVariants as draw
@@ -16,7 +16,7 @@ use Rattle.bcv_clientstate.specs.PartRefusals.{runs_publication}
 use Rattle.bcv_clientstate.specs.Parts.{Parts}
 use Rattle.bcv_clientstate.specs.SeenClient.{Free, seen_up, side_of}
 use Rattle.bcv_clientstate.specs.StartRefusals.{kind_reasons, runs_all, start_reason}
-use Rattle.bcv_databases.specs.Catalog.{Catalog, View, found_at, known_name, known_view, local_view}
+use Rattle.bcv_databases.specs.Catalog.{Catalog, found_at, known_name, known_view, local_view}
 use Rattle.bcv_databases.specs.Sound.{AreDatabases, CanUpload}
 use Rattle.bcv_databases.specs.declared.known.Known.{Known}
 use Rattle.bcv_base.specs.Keyed.{keyed}
@@ -24,7 +24,6 @@ use Rattle.bcv_model.specs.declared.kept.Local.{Local}
 use Rattle.bcv_model.specs.Notes.{kept_name}
 use Rattle.bcv_dbmap.specs.Past.{has_version}
 use Rattle.bcv_dbcopy.specs.declared.plan.CopyPlan.{CopyPlan}
-use Rattle.bcv_dbcopy.specs.declared.plan.CopyPlan.TheVariants as plan
 use Rattle.bcv_dbcopy.specs.State as copy
 use Rattle.bcv_disk.specs.DiskShown.{DiskShown}
 use Rattle.bcv_ledger.specs.declared.ledger.Ledger.{Ledger}
@@ -41,16 +40,17 @@ use Rattle.bcv_tasks.specs.declared.publish_task.PublishTask.{PublishTask}
 use Rattle.bcv_tasks.specs.declared.publish_task.PublishTask.TheVariants as task
 use Rattle.bcv_tasks.specs.State.{IsRunning, left_of, pending_of, refused_of, upload_of}
 use Rattle.bcv_transaction.specs.Open.{Open}
-use Rattle.bcv_client.specs.ClientForm.{IsInForm, JobInForm, PendingFor, ViewInForm}
+use Rattle.bcv_client.specs.ClientForm.{IsInForm, JobInForm, PendingFor, TriesAgain, ViewInForm}
 use Rattle.bcv_client.specs.ClientParts.{entries_of, parts_of}
 use Rattle.bcv_client.specs.Events.{StandsOver}
 use Rattle.bcv_client.specs.InForm.{InForm}
-use Rattle.bcv_client.specs.NewTasks.{CanPublish, DrawnAs, DrawsUnless, IsTask, IsUnmoved, StartsDrawn, StartsPublication, left_in, reason_with, removal_reason_by}
+use Rattle.bcv_client.specs.NewTasks.{CanPublish, DrawnAs, DrawsUnless, DrewNone, IsTask, IsUnmoved, StartsDrawn, StartsPublication, left_in, reason_with, removal_reason_by}
 use Rattle.bcv_client.specs.TaskStarts.{OnlyTasks, StartsLast, StartsTask}
 use Rattle.bcv_client.specs.declared.client.Client.{Client}
 use Rattle.bcv_client.specs.declared.job.Job.{Job}
 use Rattle.bcv_client.specs.declared.job.Job.TheVariants as job
 use Rattle.bcv_client.proofs.FirstReasons.{has_commits}
+use Rattle.bcv_client.proofs.ReadsSaw.{new_saw}
 use Rattle.bcv_client.proofs.SameParts.{locally_still, unmoved}
 use Rattle.bcv_client.proofs.TasksStart.{Laws, all_run, starts_over}
 
@@ -105,6 +105,7 @@ plain_in_form seen c o t none running new plain = record {
   waits =
       subst (λ (x : Option PendingPub). PendingFor x (pending_of 0 t) (refused_of t)) (sym none)
       (subst (λ (ns : List ℕ). PendingFor None (pending_of 0 t) ns) (sym new) tt);
+  again = subst (λ (ns : List ℕ). TriesAgain ns t) (sym new) tt;
   upload = subst (λ (x : Option Uploading). IfSome x (CanUpload c.kept.locals)) (sym plain) tt;
   view = plain_view seen c t plain;
 }
@@ -126,6 +127,26 @@ starts_after old mid new j left r same starts = record {
   only = only_then old mid new same.only starts.only;
   tasks = subst (λ (ss : List (Slot Job)). StartsLast ss new.tasks.items j left r) same.tasks starts.tasks;
 }
+
+-- where no name was drawn, none was
+none_drawn : (j : Job) (before after : NamesShown) (id : Id16) → after ≡ before → DrewNone j before after id
+none_drawn (job.Fetch access txn page) before after id same = same
+none_drawn job.Poll before after id same = same
+none_drawn (job.Publish set taken (task.Create c)) before after id same = same
+none_drawn (job.Publish set taken (task.Copy i s)) before after id same = same
+none_drawn (job.Publish set taken (task.Upload i s)) before after id same = inl same
+none_drawn (job.Publish set taken (task.Cleanup i s)) before after id same = same
+none_drawn job.Resolve before after id same = same
+
+-- either none was drawn, or the publication's
+pub none_or_its : (j : Job) (before after : NamesShown) (id : Id16) → DrewNone j before after id → (after ≡ before) ⊎ Draws before after (draw.Drawn id)
+none_or_its (job.Fetch access txn page) before after id is = inl is
+none_or_its job.Poll before after id is = inl is
+none_or_its (job.Publish set taken (task.Create c)) before after id is = inl is
+none_or_its (job.Publish set taken (task.Copy i s)) before after id is = inl is
+none_or_its (job.Publish set taken (task.Upload i s)) before after id is = is
+none_or_its (job.Publish set taken (task.Cleanup i s)) before after id is = inl is
+none_or_its job.Resolve before after id is = inl is
 
 module _ {D : Type 0} {g : _} (shown : D → DiskShown) (old : Client D g) (before : NamesShown) (why : Option Reply) (make : Id16 → Job) (Goes : Reply → Id16 → m.Side → m.Up → m.Side → Type 0) where
   abbrev p : Parts
@@ -152,7 +173,7 @@ module _ {D : Type 0} {g : _} (shown : D → DiskShown) (old : Client D g) (befo
       }
       by None is reply.NoMemory e = record {
         id = old.id;
-        starts = subst (λ (w : Option Reply). StartsDrawn old new before after old.id (make old.id) w reply.NoMemory) (sym is) e;
+        starts = subst (λ (w : Option Reply). StartsDrawn old new before after old.id (make old.id) w reply.NoMemory) (sym is) (e.0, none_drawn (make old.id) before after old.id e.1);
         steps = λ moment log f stands fresh. locally_still shown (Goes reply.NoMemory old.id) old new moment log f reply.NoMemory e.0 stands (λ some. absurd (some tt));
       }
       by None is _ e = absurd e
@@ -218,6 +239,7 @@ module _ {D : Type 0} {g : _} (shown : D → DiskShown) (old mid new : Client D 
     starts = λ n few least. create_starts moment (history_of log) q f block retention n id d.free least d.is_id fresh;
     full = λ all. absurd (not_full shown old before (start_reason q (m.Creating block retention)) (creates block retention) (Machine (m.Creating block retention)) mid d.same d.can all);
     fits = λ n. new_create_fits log q (entries_of old) n block retention id stands.fits size d.is_id fresh;
+    saw = new_saw (history_of log);
   }
 
   abbrev copies : CopyPlan → Id16 → Job
@@ -229,6 +251,7 @@ module _ {D : Type 0} {g : _} (shown : D → DiskShown) (old mid new : Client D 
     starts = λ n few least. copy_starts moment (history_of log) q f x n id d.free least d.is_id fresh;
     full = λ all. absurd (not_full shown old before (start_reason q (kind_asked x)) (copies x) (Machine (kind_asked x)) mid d.same d.can all);
     fits = λ n. new_copy_fits log q (entries_of old) n x id stands.fits runs d.is_id fresh;
+    saw = new_saw (history_of log);
   }
 
   abbrev cleans : Id16 → Job
@@ -240,6 +263,7 @@ module _ {D : Type 0} {g : _} (shown : D → DiskShown) (old mid new : Client D 
     starts = λ n few least. cleanup_starts moment (history_of log) q f n id d.free least d.is_id fresh;
     full = λ all. absurd (not_full shown old before (start_reason q m.Cleaning) cleans (Machine m.Cleaning) mid d.same d.can all);
     fits = λ n. new_cleanup_fits log q (entries_of old) n id stands.fits runs d.is_id fresh;
+    saw = new_saw (history_of log);
   }
 
 -- ---- how a name is drawn

@@ -1,54 +1,39 @@
 -- The step of a resolve over a client.
-use Rattle.std.proofs.Common.{◌≡◌, ◌≢◌, ◌∙◌, ◌==◌, ℕ, Bool, true, false, List, [], ◌∷◌, ◌++◌, map, Option, Some, None, IfSome, refl, sym, ap, subst}
+use Rattle.std.proofs.Common.{◌≡◌, ◌≢◌, ◌∙◌, ℕ, true, false, List, ◌++◌, Option, Some, None, refl, sym, ap, subst}
 use Rattle.std.specs.List.{AllByRecursion, list_any}
-use Rattle.bcv_base.specs.declared.id.Id16.{Id16}
 use Rattle.bcv_base.specs.declared.log.Entry.{Entry}
 use Rattle.bcv_base.specs.declared.outcome.Outcome.{Outcome}
 use Rattle.bcv_base.specs.declared.outcome.Outcome.TheVariants as outcome
-use Rattle.bcv_base.specs.Faults.{Rose}
-use Rattle.bcv_base.specs.History.{Item, history_of}
-use Rattle.bcv_cache.specs.Entry.{Blocks}
-use Rattle.bcv_clientlaws.specs.Forms.{AreInForm}
-use Rattle.bcv_clientlaws.specs.OtherParts.{Includes}
-use Rattle.bcv_clientlaws.proofs.DatabaseForms.{notes_keep_form, resolves_keep_form}
+use Rattle.bcv_base.specs.History.{history_of}
 use Rattle.bcv_clientlog.specs.declared.log.ClientLog.{ClientLog}
 use Rattle.bcv_clientlog.specs.LogParts.{is_shut}
 use Rattle.bcv_clientstate.specs.Fits.{Fits}
 use Rattle.bcv_clientstate.specs.Journaled.{Journaled}
 use Rattle.bcv_clientstate.specs.PartRefusals.{runs_publication}
-use Rattle.bcv_clientstate.specs.Parts.{Parts, mine_of, with_ledger}
+use Rattle.bcv_clientstate.specs.Parts.{Parts, with_ledger}
 use Rattle.bcv_clientstate.specs.SeenClient.{Free, seen_up, side_of}
 use Rattle.bcv_databases.specs.Catalog.{Catalog}
-use Rattle.bcv_databases.specs.Sound.{AreDatabases, CanEnd, CanUpload, KeepsViews}
+use Rattle.bcv_databases.specs.Sound.{AreDatabases}
 use Rattle.bcv_databases.specs.declared.known.Known.{Known}
-use Rattle.bcv_dbmap.specs.Honest.{GrewHonestly}
 use Rattle.bcv_disk.specs.DiskShown.{DiskShown, DiskTold}
 use Rattle.bcv_ledger.specs.declared.ledger.Ledger.{Ledger}
 use Rattle.bcv_ledger.specs.LedgerNotes.{parts_in}
-use Rattle.bcv_ledger.specs.NoteEnds.{known_found}
-use Rattle.bcv_machine.specs.Noting.{NoteFails, Notes}
+use Rattle.bcv_machine.specs.Noting.{NoteFails}
 use Rattle.bcv_machine.specs.Resolve.{Resolves, ResolvesAs, ResolvesPending, number_from}
 use Rattle.bcv_machine.specs.State as m
 use Rattle.bcv_model.specs.declared.kept.Kept.{Kept}
-use Rattle.bcv_model.specs.declared.kept.Local.{Local}
-use Rattle.bcv_model.specs.declared.kept.PendingPub.{PendingPub}
-use Rattle.bcv_model.specs.declared.kept.Uploading.{Uploading}
-use Rattle.bcv_model.specs.declared.note.Note.TheVariants as note
 use Rattle.bcv_model.specs.declared.reply.Reply.{Reply}
 use Rattle.bcv_model.specs.declared.reply.Reply.TheVariants as reply
-use Rattle.bcv_model.specs.Notes.{after_note, kept_published}
-use Rattle.bcv_pages.specs.Held.{Held}
 use Rattle.bcv_publisher.specs.PutStep.{Armed, version_added}
-use Rattle.bcv_publisher.specs.ResolveStep.{ResolveLeaves, ResolveSays, ResolveStep}
+use Rattle.bcv_publisher.specs.ResolveStep.{ResolveLeaves}
 use Rattle.bcv_client.proofs.OthersGrew.{grown_by_others}
 use Rattle.bcv_slots.specs.declared.Slot.{Slot}
 use Rattle.bcv_store.specs.StoreShown.{StoreShown, StoreTold}
 use Rattle.bcv_transaction.specs.Open.{Open}
-use Rattle.bcv_transaction.specs.declared.open_txn.OpenTxn.{OpenTxn}
 use Rattle.bcv_client.specs.ClientForm.{HasSize, IsInForm}
 use Rattle.bcv_client.specs.ClientParts.{entries_of, parts_of}
-use Rattle.bcv_client.specs.Events.{IsArmed, StandsOver}
-use Rattle.bcv_client.specs.LocalWrites.{OnlyLedger, TrimsSets}
+use Rattle.bcv_client.specs.Events.{IsArmed}
+use Rattle.bcv_client.specs.LocalWrites.{OnlyWrites, TrimsSets}
 use Rattle.bcv_client.specs.NewTasks.{is_busy}
 use Rattle.bcv_client.specs.ResolveOver.{ClientResolves}
 use Rattle.bcv_client.specs.Steps.{EndsJob}
@@ -58,9 +43,11 @@ use Rattle.bcv_client.specs.declared.job.Job.{Job}
 use Rattle.bcv_client.specs.declared.job.Job.TheVariants as job
 use Rattle.bcv_client.proofs.LedgerParts.{ledger_alone}
 use Rattle.bcv_client.proofs.PollOver.{none_added}
+use Rattle.bcv_client.proofs.ReadsSaw.{saw_grown, saw_same}
 use Rattle.bcv_client.proofs.RevertForm.{quiet_slots, quiet_stays, size_as_before}
-use Rattle.bcv_client.proofs.SetViews.{KeepsSlot, KeepsTxn, keeps_then, keeps_txns}
-use Rattle.bcv_client.proofs.TasksTaken.{busy_jobs}
+use Rattle.bcv_client.proofs.SetViews.{KeepsTxn, both_keep, keeps_txns}
+use Rattle.bcv_client.proofs.BlockSizes.{size_found, size_void}
+use Rattle.bcv_client.proofs.BusyTasks.{busy_jobs}
 
 -- ---- the machine's slots
 
@@ -99,64 +86,9 @@ resolve_fails s u outcome.Ok r t does bad = absurd (bad refl)
 resolve_fails s u outcome.Fail r t does bad = does.0
 resolve_fails s u outcome.Lost r t does bad = does.0
 
--- ---- the size
+-- ---- the journal
 
-no_upload_left : (locals : List Local) (x : Uploading) → locals ≡ [] → CanUpload locals x → ⊥
-no_upload_left locals x none can = (let c : CanUpload [] x = subst (λ (ls : List Local). CanUpload ls x) none can in let e : None ≡ Some c.local = c.is_local in absurd (cc))
-
--- where nothing is kept of databases, a publication that was made leaves it so
-none_published : (n : ℕ) (k : Kept) (p : Option PendingPub) → k.locals ≡ [] → CanEnd k.locals p → (kept_published n k p).locals ≡ []
-none_published n k None none can = none
-none_published n k (Some p) none can = by p.upload can
-  where
-    by : (u : Option Uploading) → IfSome u (CanUpload k.locals) → (kept_published n k (Some (record p { upload = u }))).locals ≡ []
-    by None h = none
-    by (Some u) h = absurd (no_upload_left k.locals u none h)
-
-none_known : (n : ℕ) (id : Id16) (k : Kept) (known : List Known) (p : Option PendingPub) → k.pending ≡ p → k.locals ≡ [] → CanEnd k.locals p → known_found k id n known ≡ known
-none_known n id k known None is none can = subst (λ (x : Option PendingPub). known_found (record k { pending = x }) id n known ≡ known) (sym is) refl
-none_known n id k known (Some p) is none can = by p.upload refl can
-  where
-    by : (u : Option Uploading) → p.upload ≡ u → IfSome u (CanUpload k.locals) → known_found k id n known ≡ known
-    by None e h =
-        subst (λ (x : Option PendingPub). known_found (record k { pending = x }) id n known ≡ known) (sym is)
-        (subst (λ (u : Option Uploading). known_found (record k { pending = Some (record { id = p.id; upload = u }) }) id n known ≡ known) (sym e) refl)
-    by (Some u) e h = absurd (no_upload_left k.locals u none h)
-
-size_found : (size : Option ℕ) (c d : Catalog) (blocks : Option Blocks) (id : Id16) (n : ℕ) (p : Parts) → p.kept ≡ c.kept → p.known ≡ c.known → CanEnd c.kept.locals c.kept.pending → HasSize size c blocks
-    → d.kept ≡ after_note c.kept (note.Done id n) → d.known ≡ known_found c.kept id n c.known → HasSize size d blocks
-size_found None c d blocks id n p is has_known can has kept knows = (
-  ap (λ (k : Kept). k.locals) kept ∙ none_published n c.kept c.kept.pending has.0 can,
-  knows ∙ none_known n id c.kept c.known c.kept.pending refl has.0 can ∙ has.1,
-  has.2,
-)
-size_found (Some b) c d blocks id n p is has_known can has kept knows =
-    let at : AreInForm b p.kept p.known = subst (λ (k : Kept). AreInForm b k p.known) (sym is) (subst (λ (ks : List Known). AreInForm b c.kept ks) (sym has_known) has.1) in
-    let after : AreInForm b (after_note p.kept (note.Done id n)) (known_found p.kept id n p.known) = resolves_keep_form b n id p at in (
-      has.0,
-      subst (λ (k : Kept). AreInForm b k d.known) (sym kept)
-          (subst (λ (ks : List Known). AreInForm b (after_note c.kept (note.Done id n)) ks) (sym knows)
-          (subst (λ (k : Kept). AreInForm b (after_note k (note.Done id n)) (known_found k id n c.known)) is
-          (subst (λ (ks : List Known). AreInForm b (after_note p.kept (note.Done id n)) (known_found p.kept id n ks)) has_known after))),
-      has.2,
-    )
-
-size_void : (size : Option ℕ) (c d : Catalog) (blocks : Option Blocks) (id : Id16) → HasSize size c blocks → d.kept ≡ after_note c.kept (note.Void id) → d.known ≡ c.known → HasSize size d blocks
-size_void None c d blocks id has kept knows = (ap (λ (k : Kept). k.locals) kept ∙ has.0, knows ∙ has.1, has.2)
-size_void (Some b) c d blocks id has kept knows = (
-  has.0,
-  subst (λ (k : Kept). AreInForm b k d.known) (sym kept)
-      (subst (λ (ks : List Known). AreInForm b (after_note c.kept (note.Void id)) ks) (sym knows) (notes_keep_form b c.kept c.known (note.Void id) has.1 tt)),
-  has.2,
-)
-
--- ---- the sets
-
-both_keep : (a b c : List (Option Held)) (ts : List OpenTxn) → AllByRecursion (KeepsTxn a b) ts → AllByRecursion (KeepsTxn b c) ts → AllByRecursion (KeepsTxn a c) ts
-both_keep a b c [] first second = tt
-both_keep a b c (t ∷ ts) first second = (keeps_then a b c t.set t.txn.base.from t.txn.base.to first.0 second.0, both_keep a b c ts first.1 second.1)
-
-armed : (r : Reply) (f : Free) → IsArmed r f → Armed r f
+pub armed : (r : Reply) (f : Free) → IsArmed r f → Armed r f
 armed reply.DiskFault f is = is
 armed _ f is = tt
 
@@ -167,7 +99,7 @@ slots_apart shown l k free n j = record { settled = j.settled; still = j.still; 
 -- ---- the step
 
 module _ {D : Type 0} {g : _} (told : DiskTold) (shown : D → DiskShown) (store : StoreTold) (before after : StoreShown) (old new : Client D g) (r : Reply)
-    (only : OnlyLedger old new) (res : ClientResolves told shown store before after old new r) (form : IsInForm old.seen old.ledger.databases old.txns old.tasks.items)
+    (only : OnlyWrites old new) (res : ClientResolves told shown store before after old new r) (form : IsInForm old.seen old.ledger.databases old.txns old.tasks.items)
     (are : AreDatabases old.ledger.databases) (alone : runs_publication (parts_of old) ≡ false) where
   abbrev p : Parts
   p = parts_of old
@@ -185,7 +117,7 @@ module _ {D : Type 0} {g : _} (told : DiskTold) (shown : D → DiskShown) (store
   mid = res.mid
 
   abbrev same : TrimsSets mid new.ledger old.txns
-  same = res.trims
+  same = res.views
 
   none_busy : list_any (λ (s : Slot Job). is_busy s.item) old.tasks.items ≡ false
   none_busy = sym (busy_jobs c old.tasks.items) ∙ alone
@@ -240,6 +172,7 @@ module _ {D : Type 0} {g : _} (told : DiskTold) (shown : D → DiskShown) (store
           fits =
               subst (λ (x : Parts). Fits x (entries_of new) after.log) (sym parts_mid)
               (subst (λ (o : Open). Fits (with_ledger (parts_in mid) p) (entries_in o.cache) after.log) (sym only.txns) says.fits);
+          saw = saw_same (history_of after.log) old.tasks.items new.tasks.items only.tasks (saw_grown store.alone mine before.log after.log says.growth old.tasks.items stands.saw);
           journaled = journaled_now free (slots_apart shown mid.log mid.databases.kept steps.0 f.slots steps.1);
           slots = stands.slots ∙ sym (ap (λ (o : Open). o.slots) only.txns);
         };

@@ -1,10 +1,10 @@
 -- A revert of a client.
-use Rattle.std.proofs.Common.{◌≡◌, ◌≢◌, ◌∙◌, ℕ, Bool, true, false, List, [], ◌∷◌, Option, Some, None, IfSome, is_none, is_some, not, cond, refl, sym, ap, subst}
+use Rattle.std.proofs.Common.{◌≡◌, ◌∙◌, ℕ, Bool, true, false, List, [], ◌∷◌, Option, Some, None, IfSome, is_none, is_some, not, refl, sym, ap, subst}
 use Rattle.std.specs.List.{AllByRecursion, list_any}
 use Rattle.std.proofs.lemmas.Option.{same_Some}
 use Rattle.bcv_base.specs.declared.log.Entry.{Entry}
 use Rattle.bcv_base.specs.History.{Item, history_of}
-use Rattle.bcv_base.specs.Keyed.{keyed, with_keyed}
+use Rattle.bcv_base.specs.Keyed.{with_keyed}
 use Rattle.bcv_clientlaws.proofs.OtherParts.{kept_fits_quietly}
 use Rattle.bcv_clientlog.specs.declared.log.ClientLog.{ClientLog}
 use Rattle.bcv_clientlog.specs.LogParts.{is_shut}
@@ -35,15 +35,13 @@ use Rattle.bcv_model.specs.declared.kept.Kept.{Kept}
 use Rattle.bcv_model.specs.declared.note.Note.TheVariants as note
 use Rattle.bcv_model.specs.declared.reply.Reply.{Reply}
 use Rattle.bcv_model.specs.declared.reply.Reply.TheVariants as reply
-use Rattle.bcv_model.specs.Notes.{after_note, kept_name}
-use Rattle.bcv_pages.specs.Held.{Held}
+use Rattle.bcv_model.specs.Notes.{after_note}
 use Rattle.bcv_slots.specs.declared.Slot.{Slot}
 use Rattle.bcv_transaction.specs.Open.{Open}
-use Rattle.bcv_transaction.specs.declared.open_txn.OpenTxn.{OpenTxn}
 use Rattle.bcv_client.specs.ClientForm.{IsInForm}
 use Rattle.bcv_client.specs.ClientParts.{entries_of, parts_of}
 use Rattle.bcv_client.specs.Events.{IsArmed, IsNoEvent, Noting, NotesOver, StandsOver, client_side, client_up}
-use Rattle.bcv_client.specs.LocalWrites.{ClientReverts, OnlyLedger, TrimsSets, TrimsWhere, is_fine}
+use Rattle.bcv_client.specs.LocalWrites.{OnlyWrites, TrimsSets, TrimsWhere, is_fine}
 use Rattle.bcv_client.specs.NewTasks.{is_busy}
 use Rattle.bcv_client.specs.declared.client.Client.{Client}
 use Rattle.bcv_client.specs.declared.job.Job.{Job}
@@ -52,8 +50,8 @@ use Rattle.bcv_client.proofs.FirstReasons.{free_to_revert, same_views}
 use Rattle.bcv_client.proofs.LedgerParts.{fits_closed, fits_same, ledger_alone, ledger_same, stands_by}
 use Rattle.bcv_client.proofs.MachineSlots.{reverts_keep_slots}
 use Rattle.bcv_client.proofs.RevertForm.{quiet_slots, quiet_stays, size_as_before, size_reverted}
-use Rattle.bcv_client.proofs.SetViews.{KeepsSlot, KeepsTxn, keeps_slots, keeps_then, keeps_txns}
-use Rattle.bcv_client.proofs.TasksStart.{busy_jobs}
+use Rattle.bcv_client.proofs.BusyTasks.{busy_jobs}
+use Rattle.bcv_client.proofs.SetViews.{KeepsSlot, KeepsTxn, both_keep, keeps_slots, keeps_txns}
 
 -- no reason is that all went well
 not_fine : (a b d e f : Bool) (why : Reply)
@@ -65,10 +63,6 @@ not_fine false false false true f why is = ap is_fine (sym (same_Some reply.NoDa
 not_fine false false false false true why is = ap is_fine (sym (same_Some reply.Nothing why is))
 not_fine false false false false false why is = absurd (let e : None ≡ Some why = is in cc)
 
-both_keep : (a b c : List (Option Held)) (ts : List OpenTxn) → AllByRecursion (KeepsTxn a b) ts → AllByRecursion (KeepsTxn b c) ts → AllByRecursion (KeepsTxn a c) ts
-both_keep a b c [] first second = tt
-both_keep a b c (t ∷ ts) first second = (keeps_then a b c t.set t.txn.base.from t.txn.base.to first.0 second.0, both_keep a b c ts first.1 second.1)
-
 -- ---- the ledger after the trim
 
 pub record SameLedger {D : Type 0} {g : _} (mid new : Ledger D g) : Type 0 where
@@ -76,12 +70,10 @@ pub record SameLedger {D : Type 0} {g : _} (mid new : Ledger D g) : Type 0 where
   pub kept : new.databases.kept ≡ mid.databases.kept
   pub known : new.databases.known ≡ mid.databases.known
 
-pub same_ledger : {D : Type 0} {g : _} (gone : Bool) (mid new : Ledger D g) (o : Open) → TrimsWhere gone mid new o → SameLedger mid new
-same_ledger {D = D} {g = g} true mid new o trims = record { log = trims.log; kept = trims.kept; known = trims.known }
-same_ledger {D = D} {g = g} false mid new o same =
-    record { log = ap (λ (l : Ledger D g). l.log) same; kept = ap (λ (l : Ledger D g). l.databases.kept) same; known = ap (λ (l : Ledger D g). l.databases.known) same }
+pub same_ledger : {D : Type 0} {g : _} (mid new : Ledger D g) (o : Open) → TrimsSets mid new o → SameLedger mid new
+same_ledger mid new o trims = record { log = trims.log; kept = trims.kept; known = trims.known }
 
-module _ {D : Type 0} {g : _} (told : DiskTold) (shown : D → DiskShown) (old new : Client D g) (mid : Ledger D g) (db : List ℕ) (only : OnlyLedger old new)
+module _ {D : Type 0} {g : _} (told : DiskTold) (shown : D → DiskShown) (old new : Client D g) (mid : Ledger D g) (db : List ℕ) (set : Option ℕ) (only : OnlyWrites old new)
     (form : IsInForm old.seen old.ledger.databases old.txns old.tasks.items) where
   abbrev p : Parts
   p = parts_of old
@@ -121,31 +113,31 @@ module _ {D : Type 0} {g : _} (told : DiskTold) (shown : D → DiskShown) (old n
   none_busy : Why None → list_any (λ (s : Slot Job). is_busy s.item) old.tasks.items ≡ false
   none_busy is = sym (busy_jobs c old.tasks.items) ∙ (free_is is).1
 
-  ends_noted : (r : Reply) → Why None → RevertNotes told shown old.ledger mid db r → TrimsWhere (is_fine r) mid new.ledger old.txns → Ends
-  ends_noted reply.Fine is notes trims =
+  ends_noted : (r : Reply) → Why None → RevertNotes told shown old.ledger mid db r → TrimsWhere (is_fine r) set mid new.ledger old.txns old.tasks.items → TrimsSets mid new.ledger old.txns → Ends
+  ends_noted reply.Fine is notes trims sets =
       let keeps : AllByRecursion (KeepsTxn c.sets d.sets) old.txns.txns =
-      both_keep c.sets mid.databases.sets d.sets old.txns.txns (keeps_txns c.sets mid.databases.sets notes.ends.views old.txns.txns) trims.views in
+      both_keep c.sets mid.databases.sets d.sets old.txns.txns (keeps_txns c.sets mid.databases.sets notes.ends.views old.txns.txns) sets.views in
       record {
         keeps = keeps;
         slots = quiet_slots c.sets d.sets old.tasks.items (none_busy is);
         form_after =
             quiet_stays old.seen c d old.txns old.tasks.items form (none_busy is) keeps
-            (size_reverted old.seen.block c d old.txns.cache db notes.local notes.is_local form.size (trims.kept ∙ notes.ends.kept) (trims.known ∙ notes.ends.knows));
+            (size_reverted old.seen.block c d old.txns.cache db notes.local notes.is_local form.size (sets.kept ∙ notes.ends.kept) (sets.known ∙ notes.ends.knows));
       }
-  ends_noted r is notes trims =
+  ends_noted r is notes trims sets =
       ends_same (subst (λ (l : Ledger D g). KeepsViews c.sets l.databases.sets) (sym trims) notes.ends.views)
       (ap (λ (l : Ledger D g). l.databases.kept) trims ∙ notes.ends.kept) (ap (λ (l : Ledger D g). l.databases.known) trims ∙ notes.ends.knows)
 
-  pub ends : (r : Reply) → LedgerReverts told shown old.ledger mid (runs_publication p) db r → TrimsWhere (is_fine r) mid new.ledger old.txns → Ends
-  ends r reverts trims = by (revert_reason_in (parts_in old.ledger) (runs_publication p) db) refl reverts
+  pub ends : (r : Reply) → LedgerReverts told shown old.ledger mid (runs_publication p) db r → TrimsWhere (is_fine r) set mid new.ledger old.txns old.tasks.items → TrimsSets mid new.ledger old.txns → Ends
+  ends r reverts trims sets = by (revert_reason_in (parts_in old.ledger) (runs_publication p) db) refl reverts
     where
       by : (why : Option Reply) → Why why → RevertsFrom told shown old.ledger mid db r why → Ends
-      by None is notes = ends_noted r is notes trims
+      by None is notes = ends_noted r is notes trims sets
       by (Some why) is same =
           let l : LedgerParts = parts_in old.ledger in
           let bad : is_fine r ≡ false =
           ap is_fine same.0 ∙ not_fine l.closed (is_some l.kept.pending) (runs_publication p) (is_none (part_view_in l db)) (not (has_local_in l db)) why is in
-          let still : new.ledger ≡ mid = subst (λ (b : Bool). TrimsWhere b mid new.ledger old.txns) bad trims in
+          let still : new.ledger ≡ mid = subst (λ (b : Bool). TrimsWhere b set mid new.ledger old.txns old.tasks.items) bad trims in
           let all : d ≡ c = ap (λ (x : Ledger D g). x.databases) still ∙ same.1.databases in
           ends_same (subst (λ (x : Catalog). KeepsViews c.sets x.sets) (sym all) (same_views c.sets)) (ap (λ (x : Catalog). x.kept) all) (ap (λ (x : Catalog). x.known) all)
 

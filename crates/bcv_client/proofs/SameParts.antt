@@ -24,6 +24,7 @@ use Rattle.bcv_client.specs.NewTasks.{IsUnmoved}
 use Rattle.bcv_client.specs.TaskStarts.{OnlyTasks}
 use Rattle.bcv_client.specs.declared.client.Client.{Client}
 use Rattle.bcv_client.specs.declared.job.Job.{Job}
+use Rattle.bcv_client.proofs.ReadsSaw.{SawAll, saw_same}
 
 module _ {D : Type 0} {g : _} where
   -- a client's parts by what it has
@@ -53,24 +54,25 @@ module _ {D : Type 0} {g : _} where
 
   -- it stands as before, where it still fits
   pub stands_with : (shown : D → DiskShown) (old new : Client D g) (log : List Entry) (f : Free) (p : Parts) → OnlyTasks old new → parts_of new ≡ p → Fits p (entries_of old) log
-      → StandsOver shown old log f → StandsOver shown new log f
-  stands_with shown old new log f p only is fits stands = record {
+      → SawAll (history_of log) new.tasks.items → StandsOver shown old log f → StandsOver shown new log f
+  stands_with shown old new log f p only is fits saw stands = record {
     sound = stands.sound;
     fits =
         subst (λ (q : Parts). Fits q (entries_of new) log) (sym is)
         (subst (λ (o : Open). Fits p (entries_in o.cache) log) (sym only.txns) fits);
+    saw = saw;
     journaled = subst (λ (l : Ledger D g). Journaled shown l.log l.databases.kept f) (sym only.ledger) stands.journaled;
     slots = stands.slots ∙ sym (ap (λ (o : Open). o.slots) only.txns);
   }
 
   -- a call that leaves it with these parts is the machine's
   pub locally : (shown : D → DiskShown) (Goes : m.Side → m.Up → m.Side → Type 0) (old new : Client D g) (moment : ℕ) (log : List Entry) (f : Free) (r : Reply) (p : Parts)
-      → OnlyTasks old new → parts_of new ≡ p → Fits p (entries_of old) log → StandsOver shown old log f
+      → OnlyTasks old new → parts_of new ≡ p → Fits p (entries_of old) log → SawAll (history_of log) new.tasks.items → StandsOver shown old log f
       → ((IsNoEvent r → ⊥) → Goes (client_side moment log old f) (client_up log old) (side_of moment (history_of log) p f))
       → (IsNoEvent r → p ≡ parts_of old)
       → LocallyOver shown Goes old new moment log f r
-  locally shown Goes old new moment log f r p only is fits stands event still = record {
-    stands = stands_with shown old new log f p only is fits stands;
+  locally shown Goes old new moment log f r p only is fits saw stands event still = record {
+    stands = stands_with shown old new log f p only is fits saw stands;
     goes = record {
       event = λ some. subst (λ (q : Parts). Goes (client_side moment log old f) (client_up log old) (side_of moment (history_of log) q f)) (sym is) (event some);
       still = λ none. ap (λ (q : Parts). side_of moment (history_of log) q f) (is ∙ still none);
@@ -83,4 +85,4 @@ module _ {D : Type 0} {g : _} where
       → ((IsNoEvent r → ⊥) → Goes (client_side moment log old f) (client_up log old) (client_side moment log old f))
       → LocallyOver shown Goes old new moment log f r
   locally_still shown Goes old new moment log f r same stands event =
-      locally shown Goes old new moment log f r (parts_of old) same.only (unmoved old new same) stands.fits stands event (λ none. refl)
+      locally shown Goes old new moment log f r (parts_of old) same.only (unmoved old new same) stands.fits (saw_same (history_of log) old.tasks.items new.tasks.items same.tasks stands.saw) stands event (λ none. refl)

@@ -1,15 +1,14 @@
 -- Sets that keep what the open transactions and the uploads see of them.
-use Rattle.std.proofs.Common.{◌≡◌, ◌∙◌, ℕ, true, false, List, [], ◌∷◌, map, Option, Some, None, unwrap_or, refl, sym, ap, subst}
+use Rattle.std.proofs.Common.{◌≡◌, ◌∙◌, ℕ, List, [], ◌∷◌, map, Option, unwrap_or, refl, sym, ap}
 use Rattle.std.specs.List.{AllByRecursion}
 use Rattle.bcv_base.specs.declared.seen.Seen.{Seen}
 use Rattle.bcv_base.specs.Image.{Writes}
 use Rattle.bcv_base.specs.Views.{view_size}
 use Rattle.bcv_clientstate.specs.Parts as parts
-use Rattle.bcv_databases.specs.Catalog.{Catalog, set_at}
+use Rattle.bcv_databases.specs.Catalog.{Catalog}
 use Rattle.bcv_databases.specs.Changes.{KeepsFrom}
 use Rattle.bcv_databases.specs.Sound.{KeepsViews}
 use Rattle.bcv_pages.specs.Held.{Held}
-use Rattle.bcv_publication.specs.TaskSides.{job_of}
 use Rattle.bcv_slots.specs.declared.Slot.{Slot}
 use Rattle.bcv_tasks.specs.declared.publish_task.PublishTask.{PublishTask}
 use Rattle.bcv_tasks.specs.declared.publish_task.PublishTask.TheVariants as task
@@ -17,7 +16,7 @@ use Rattle.bcv_transaction.specs.MachineCalls.{open_part}
 use Rattle.bcv_transaction.specs.Open.{Open, view_in}
 use Rattle.bcv_transaction.specs.declared.open_txn.OpenTxn.{OpenTxn}
 use Rattle.bcv_upload.specs.State as upload
-use Rattle.bcv_client.specs.ClientForm.{JobInForm, ReadsSet, UploadInForm, ViewInForm}
+use Rattle.bcv_client.specs.ClientForm.{JobInForm, ReadsSet, ViewInForm}
 use Rattle.bcv_client.specs.TaskParts.{done_by, no_set, sets_in, task_part}
 use Rattle.bcv_client.specs.declared.job.Job.{Job}
 use Rattle.bcv_client.specs.declared.job.Job.TheVariants as job
@@ -52,6 +51,10 @@ keeps_then a b c set from to first second = λ h is.
 pub keeps_txns : (old new : List (Option Held)) → KeepsViews old new → (ts : List OpenTxn) → AllByRecursion (KeepsTxn old new) ts
 keeps_txns old new keeps [] = tt
 keeps_txns old new keeps (t ∷ ts) = (keeps_from old new keeps t.set t.txn.base.from t.txn.base.to, keeps_txns old new keeps ts)
+
+pub both_keep : (a b c : List (Option Held)) (ts : List OpenTxn) → AllByRecursion (KeepsTxn a b) ts → AllByRecursion (KeepsTxn b c) ts → AllByRecursion (KeepsTxn a c) ts
+both_keep a b c [] first second = tt
+both_keep a b c (t ∷ ts) first second = (keeps_then a b c t.set t.txn.base.from t.txn.base.to first.0 second.0, both_keep a b c ts first.1 second.1)
 
 keeps_task : (old new : List (Option Held)) → KeepsViews old new → (set : ℕ) (t : PublishTask) → KeepsTask old new set t
 keeps_task old new keeps set (task.Create c) = tt

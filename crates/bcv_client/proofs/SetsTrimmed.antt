@@ -1,5 +1,5 @@
 -- A set of pages that was trimmed keeps the views that transactions and an upload need, and what uses them stays in form.
-use Rattle.std.proofs.Common.{◌≡◌, ◌≢◌, ◌∙◌, ◌==◌, ◌≤◌, ℕ, Bool, true, false, cond, not, nat_eq, List, [], ◌∷◌, map, filter, length, Option, Some, None, IfSome, MatchOption, refl, sym, ap, subst, inl, inr, arith}
+use Rattle.std.proofs.Common.{◌≡◌, ◌∙◌, ◌==◌, ◌≤◌, ℕ, Bool, true, false, cond, not, List, [], ◌∷◌, Option, Some, None, IfSome, MatchOption, refl, sym, ap, subst, inl, inr, arith}
 use Rattle.std.specs.Prelude.{is_some, unwrap_or, IsSomeAnd}
 use Rattle.std.specs.List.{AllByRecursion, list_any}
 use Rattle.std.proofs.lemmas.Bool.{cases_Bool, eq-eqb, eqb-false, eqb-true, ne_eqb, or_left, or_right}
@@ -25,7 +25,7 @@ use Rattle.bcv_transaction.proofs.FitLaws.{oldest_is_least}
 use Rattle.bcv_upload.specs.BlockText.{IsViewOf}
 use Rattle.bcv_upload.specs.State as upload
 use Rattle.bcv_client.specs.ClientForm.{IsPageOf, JobInForm, PendingFor, PublishInForm, ReadsSet, UploadInForm, ViewInForm}
-use Rattle.bcv_client.specs.ClientParts.{done_by, no_set, sets_in, task_view}
+use Rattle.bcv_client.specs.ClientParts.{done_by, no_set, sets_in}
 use Rattle.bcv_client.specs.Transactions.{is_fetch_for, is_upload, is_upload_of, needed_in, uploads_of}
 use Rattle.bcv_client.specs.declared.job.Job.{Job}
 use Rattle.bcv_client.specs.declared.job.Job.TheVariants as job
@@ -187,6 +187,7 @@ module _ (old new : Catalog) (set : ℕ) (oldest : Option ℕ) (trims : Trims ol
   publish_form seen at taken t needs p = record {
     running = p.running;
     waits = subst (λ (k : Kept). PendingFor k.pending (pending_of taken t) (refused_of t)) (sym trims.kept) p.waits;
+    again = p.again;
     upload = subst (λ (k : Kept). IfSome (upload_of taken t) (CanUpload k.locals)) (sym trims.kept) p.upload;
     view = view_form seen at taken t needs p.view;
   }

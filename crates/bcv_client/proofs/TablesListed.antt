@@ -1,6 +1,5 @@
 -- The table of a client's databases, in the machine's words.
-use Rattle.std.proofs.Common.{◌≡◌, Bool, List, is_some, refl, subst, sym}
-use Rattle.bcv_base.specs.History.{history_of}
+use Rattle.std.proofs.Common.{Bool, List, refl, subst, sym}
 use Rattle.bcv_databases.specs.Table.{table_of}
 use Rattle.bcv_disk.specs.DiskShown.{DiskShown}
 use Rattle.bcv_ledger.specs.TableLaws.{ListsAreTheMachines}

@@ -1,5 +1,5 @@
 -- A task that is put last.
-use Rattle.std.proofs.Common.{◌≡◌, ◌∙◌, ◌+◌, ◌<◌, ◌≤◌, ◌||◌, ℕ, zero, suc, Bool, true, false, not, cond, nat_le, List, [], ◌∷◌, ◌++◌, length, map, find, Option, Some, None, refl, sym, ap, subst, arith}
+use Rattle.std.proofs.Common.{◌≡◌, ◌∙◌, ◌+◌, ◌<◌, ◌||◌, ℕ, zero, suc, Bool, true, false, not, cond, nat_le, List, [], ◌∷◌, ◌++◌, length, map, filter, find, Some, None, refl, sym, ap, subst, arith}
 use Rattle.std.specs.List.{AllByRecursion, list_any, range_with_len}
 use Rattle.std.proofs.lemmas.Bool.{leb-false}
 use Rattle.std.proofs.lemmas.List.{length-append}
@@ -50,21 +50,36 @@ single_last c a b j (s ∷ ss) one = ((λ h. any_last c a b j ss ∙ one.0 h), s
 
 -- ---- the form
 
-all_last : (P : Slot Job → Type 0) (ss : List (Slot Job)) (s : Slot Job) → AllByRecursion P ss → P s → AllByRecursion P (ss ++ s ∷ [])
+-- of fewer tasks
+pub all_filtered : (P : Slot Job → Type 0) (test : Slot Job → Bool) (ss : List (Slot Job)) → AllByRecursion P ss → AllByRecursion P (filter test ss)
+all_filtered P test [] all = tt
+all_filtered P test (s ∷ ss) all =
+    elim (test s) as (λ (b : Bool). AllByRecursion P (cond b (s ∷ filter test ss) (filter test ss))) [
+      | true ↦ (all.0, all_filtered P test ss all.1)
+      | false ↦ all_filtered P test ss all.1
+    ]
+
+-- of one more
+pub all_last : (P : Slot Job → Type 0) (ss : List (Slot Job)) (s : Slot Job) → AllByRecursion P ss → P s → AllByRecursion P (ss ++ s ∷ [])
 all_last P [] s all last = (last, tt)
 all_last P (x ∷ ss) s all last = (all.0, all_last P ss s all.1 last)
 
-pub form_with : (seen : Seen) (c : Catalog) (o : Open) (ss : List (Slot Job)) (n : ℕ) (j : Job) → IsInForm seen c o ss → nat_le 16 (length ss) ≡ false
-    → least_free (numbers_of ss) ≡ Some n → JobInForm seen c o j → AtMostOne (map (task_part c) (ss ++ slot 0 j ∷ [])) → IsInForm seen c o (ss ++ slot n j ∷ [])
-form_with seen c o ss n j form few least fits single = record {
+pub form_at : (seen : Seen) (c : Catalog) (o : Open) (ss : List (Slot Job)) (n : ℕ) (j : Job) → IsInForm seen c o ss → nat_le 16 (length ss) ≡ false
+    → has_number n (numbers_of ss) ≡ false → JobInForm seen c o j → AtMostOne (map (task_part c) (ss ++ slot 0 j ∷ [])) → IsInForm seen c o (ss ++ slot n j ∷ [])
+form_at seen c o ss n j form few free fits single = record {
   size = form.size;
   txns = form.txns;
   tasks_are = record {
     few = (let low : length ss < 16 = leb-false 16 (length ss) few in omega (arith, low, length-append ss (slot n j ∷ [])));
     differ =
         subst AreDifferent (sym (map_append (λ (s : Slot Job). s.number) ss (slot n j ∷ [])))
-        (differ_with n (numbers_of ss) form.tasks_are.differ (free_is_none n (numbers_of ss) least));
+        (differ_with n (numbers_of ss) form.tasks_are.differ free);
     single = single_last c 0 n j ss single;
     each = all_last (λ (s : Slot Job). JobInForm seen c o s.item) ss (slot n j) form.tasks_are.each fits;
   };
 }
+
+-- under the least free number
+pub form_with : (seen : Seen) (c : Catalog) (o : Open) (ss : List (Slot Job)) (n : ℕ) (j : Job) → IsInForm seen c o ss → nat_le 16 (length ss) ≡ false
+    → least_free (numbers_of ss) ≡ Some n → JobInForm seen c o j → AtMostOne (map (task_part c) (ss ++ slot 0 j ∷ [])) → IsInForm seen c o (ss ++ slot n j ∷ [])
+form_with seen c o ss n j form few least fits single = form_at seen c o ss n j form few (free_is_none n (numbers_of ss) least) fits single

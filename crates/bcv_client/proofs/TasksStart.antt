@@ -1,16 +1,16 @@
 -- A task that starts, in the machine's words.
-use Rattle.std.proofs.Common.{◌≡◌, ◌∙◌, ◌||◌, ℕ, Bool, true, false, cond, nat_le, List, [], ◌∷◌, ◌++◌, length, map, Option, Some, None, is_none, is_some, not, refl, sym, ap, subst}
+use Rattle.std.proofs.Common.{◌≡◌, ◌∙◌, ℕ, Bool, true, false, cond, nat_le, List, [], ◌∷◌, ◌++◌, length, map, Option, Some, None, is_none, is_some, not, refl, sym, ap, subst}
 use Rattle.std.specs.List.{list_any}
 use Rattle.bcv_base.specs.declared.log.Entry.{Entry}
 use Rattle.bcv_base.specs.History.{history_of}
 use Rattle.bcv_clientlaws.specs.Different.{AtMostOne}
 use Rattle.bcv_clientlaws.specs.Starts.{with_new_task}
-use Rattle.bcv_clientlaws.specs.TaskLists.{task_number, task_numbers, with_task, with_tasks}
+use Rattle.bcv_clientlaws.specs.TaskLists.{task_number, task_numbers, with_tasks}
 use Rattle.bcv_clientlaws.proofs.Different.{one_with, one_with_other}
 use Rattle.bcv_clientlaws.proofs.Lists.{map_append, map_map}
 use Rattle.bcv_clientlaws.proofs.TaskStarts.{poll_starts, quiet_task_fits, refuses_poll, refuses_resolve, resolve_starts}
 use Rattle.bcv_clientstate.specs.Fits.{Fits}
-use Rattle.bcv_clientstate.specs.PartRefusals.{is_publishing, runs_publication}
+use Rattle.bcv_clientstate.specs.PartRefusals.{runs_publication}
 use Rattle.bcv_clientstate.specs.Parts.{Parts}
 use Rattle.bcv_clientstate.specs.Parts as parts
 use Rattle.bcv_clientstate.specs.SeenClient.{Free, seen_up, side_of}
@@ -26,16 +26,16 @@ use Rattle.bcv_model.specs.declared.reply.Reply.{Reply}
 use Rattle.bcv_model.specs.declared.reply.Reply.TheVariants as reply
 use Rattle.bcv_slots.specs.declared.Slot.{Slot}
 use Rattle.bcv_slots.specs.Numbered.{least_free, numbers_of}
-use Rattle.bcv_tasks.specs.declared.publish_task.PublishTask.{PublishTask}
-use Rattle.bcv_tasks.specs.declared.publish_task.PublishTask.TheVariants as task
 use Rattle.bcv_client.specs.ClientParts.{done_by, entries_of, parts_of, task_part}
-use Rattle.bcv_client.specs.Events.{IsNoEvent, LocallyOver, Locally, StandsOver, client_side, client_up}
-use Rattle.bcv_client.specs.NewTasks.{IsUnmoved, StartsUnless, is_busy, resolve_reason_by}
+use Rattle.bcv_client.specs.Events.{LocallyOver, Locally, SawItsReads, StandsOver}
+use Rattle.bcv_client.specs.NewTasks.{StartsUnless, is_busy, resolve_reason_by}
 use Rattle.bcv_client.specs.TaskStarts.{StartsTask}
 use Rattle.bcv_client.specs.declared.client.Client.{Client}
 use Rattle.bcv_client.specs.declared.job.Job.{Job}
 use Rattle.bcv_client.specs.declared.job.Job.TheVariants as job
 use Rattle.bcv_client.proofs.FirstReasons.{none_first}
+use Rattle.bcv_client.proofs.ReadsSaw.{saw_more, saw_same}
+use Rattle.bcv_client.proofs.BusyTasks.{busy_is, busy_jobs}
 use Rattle.bcv_client.proofs.SameParts.{locally, locally_still, tasks_alone}
 use Rattle.bcv_client.proofs.TasksPut.{slot}
 
@@ -47,32 +47,13 @@ numbers_are c ss = map_map task_number (task_part c) (λ (s : Slot Job). s.numbe
 pub all_run : (c : Catalog) (ss : List (Slot Job)) → nat_le 16 (length (map (task_part c) ss)) ≡ nat_le 16 (length ss)
 all_run c ss = ap (nat_le 16) (map_len (task_part c) ss)
 
--- a task that publishes does so over every set
-busy_view : (c : Catalog) (set taken : ℕ) (t : PublishTask) → is_publishing (done_by c (job.Publish set taken t)) ≡ true
-busy_view c set taken (task.Create x) = refl
-busy_view c set taken (task.Copy id s) = refl
-busy_view c set taken (task.Upload id s) = refl
-busy_view c set taken (task.Cleanup id s) = refl
-
-busy_job : (c : Catalog) (j : Job) → is_publishing (done_by c j) ≡ is_busy j
-busy_job c (job.Fetch access txn page) = refl
-busy_job c job.Poll = refl
-busy_job c (job.Publish set taken t) = busy_view c set taken t
-busy_job c job.Resolve = refl
-
-pub busy_jobs : (c : Catalog) (ss : List (Slot Job)) → list_any (λ (t : parts.Task). is_publishing t.job) (map (task_part c) ss) ≡ list_any (λ (s : Slot Job). is_busy s.item) ss
-busy_jobs c [] = refl
-busy_jobs c (s ∷ ss) =
-    ap (λ (b : Bool). b || list_any (λ (t : parts.Task). is_publishing t.job) (map (task_part c) ss)) (busy_job c s.item)
-    ∙ ap (λ (b : Bool). is_busy s.item || b) (busy_jobs c ss)
-
 -- ---- no more than one publishes
 
 pub quiet_last : {D : Type 0} {g : _} (x : Client D g) (j : Job) → is_busy j ≡ false → AtMostOne (map (task_part x.ledger.databases) x.tasks.items)
     → AtMostOne (map (task_part x.ledger.databases) (x.tasks.items ++ slot 0 j ∷ []))
 quiet_last x j quiet one =
     let c : Catalog = x.ledger.databases in
-    subst AtMostOne (sym (map_append (task_part c) x.tasks.items (slot 0 j ∷ []))) (one_with_other (task_part c (slot 0 j)) (parts_of x) (busy_job c j ∙ quiet) one)
+    subst AtMostOne (sym (map_append (task_part c) x.tasks.items (slot 0 j ∷ []))) (one_with_other (task_part c (slot 0 j)) (parts_of x) (busy_is c j ∙ quiet) one)
 
 pub one_last : {D : Type 0} {g : _} (x : Client D g) (j : Job) → runs_publication (parts_of x) ≡ false
     → AtMostOne (map (task_part x.ledger.databases) (x.tasks.items ++ slot 0 j ∷ []))
@@ -95,6 +76,7 @@ module _ {D : Type 0} {g : _} (shown : D → DiskShown) (old new : Client D g) (
         → Goes (reply.Task n left) (side_of moment (history_of log) p f) (seen_up (history_of log) p) (side_of moment (history_of log) (with_new_task n (done_by c j) p) f)
     pub full : runs_all p ≡ true → Goes reply.TooMany (side_of moment (history_of log) p f) (seen_up (history_of log) p) (side_of moment (history_of log) p f)
     pub fits : (n : ℕ) → Fits (with_new_task n (done_by c j) p) (entries_of old) log
+    pub saw : SawItsReads (history_of log) j
 
   -- the task is the last one
   last_is : (n : ℕ) → new.tasks.items ≡ old.tasks.items ++ slot n j ∷ []
@@ -107,7 +89,8 @@ module _ {D : Type 0} {g : _} (shown : D → DiskShown) (old new : Client D g) (
       → Laws Goes moment log f → LocallyOver shown (Goes r) old new moment log f r
   starts_over Goes moment log f (reply.Task n k) starts stands laws =
       locally shown (Goes (reply.Task n k)) old new moment log f (reply.Task n k) (with_new_task n (done_by c j) p) starts.only
-      (tasks_alone old new starts.only ∙ last_is n starts.tasks.3) (laws.fits n) stands
+      (tasks_alone old new starts.only ∙ last_is n starts.tasks.3) (laws.fits n)
+      (saw_same (history_of log) (old.tasks.items ++ slot n j ∷ []) new.tasks.items starts.tasks.3 (saw_more (history_of log) old.tasks.items (slot n j) stands.saw laws.saw)) stands
       (λ some. subst (λ (x : ℕ). Goes (reply.Task n x) (side_of moment (history_of log) p f) (seen_up (history_of log) p) (side_of moment (history_of log) (with_new_task n (done_by c j) p) f))
       (sym starts.tasks.2) (laws.starts n (all_run c old.tasks.items ∙ starts.tasks.0) (ap least_free (numbers_are c old.tasks.items) ∙ starts.tasks.1)))
       (λ none. absurd none)
@@ -133,6 +116,7 @@ polls shown old new r starts moment log f stands =
       starts = λ n few least. poll_starts moment (history_of log) p f n (poll_free p few) least;
       full = λ all. refuses_poll moment (history_of log) p f reply.TooMany (poll_full p all);
       fits = λ n. quiet_task_fits log p (entries_of old) n parts.Polling stands.fits refl;
+      saw = tt;
     })
 
 -- ---- a resolve
@@ -202,4 +186,5 @@ resolves shown old new r starts moment log f stands = by (resolve_reason (parts_
           starts = λ n few least. resolve_starts moment (history_of log) (parts_of old) f n is least;
           full = λ all. absurd (resolve_full (parts_of old) is all);
           fits = λ n. quiet_task_fits log (parts_of old) (entries_of old) n parts.Resolving stands.fits refl;
+          saw = tt;
         })

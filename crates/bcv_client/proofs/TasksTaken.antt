@@ -1,6 +1,6 @@
 -- A client of which a task was taken out.
 use Rattle.std.proofs.Common.{◌≡◌, ◌∙◌, ◌≤◌, ◌≢◌, ◌==◌, ◌&&◌, ◌||◌, ℕ, Bool, true, false, not, cond, eqb-true, List, [], ◌∷◌, ◌++◌, length, map, filter, find, Option, Some, None, refl, sym, ap, subst, arith}
-use Rattle.std.specs.List.{AllByRecursion, flat_map, list_any}
+use Rattle.std.specs.List.{AllByRecursion, flat_map}
 use Rattle.std.specs.Option.{option_map}
 use Rattle.std.proofs.lemmas.Option.{same_Some}
 use Rattle.bcv_base.specs.declared.id.Id16.{Id16}
@@ -28,24 +28,23 @@ use Rattle.bcv_machine.specs.Step.{Steps, StepsJob}
 use Rattle.bcv_model.specs.declared.reply.Reply.{Reply}
 use Rattle.bcv_model.specs.declared.reply.Reply.TheVariants as reply
 use Rattle.bcv_slots.specs.declared.Slot.{Slot}
-use Rattle.bcv_slots.specs.Numbered.{AreDifferent, but_for, item_at, numbers_of, other_slots, without_number}
+use Rattle.bcv_slots.specs.Numbered.{AreDifferent, item_at, numbers_of, other_slots, without_number}
 use Rattle.bcv_slots.proofs.NumbersDiffer.{differ_without}
 use Rattle.bcv_store.specs.StoreShown.{StoreShown, StoreTold}
-use Rattle.bcv_tasks.specs.declared.publish_task.PublishTask.{PublishTask}
-use Rattle.bcv_tasks.specs.declared.publish_task.PublishTask.TheVariants as task
 use Rattle.bcv_transaction.specs.Open.{Open}
 use Rattle.bcv_client.specs.ClientForm.{IsInForm, JobInForm}
 use Rattle.bcv_client.specs.ClientParts.{entries_of, parts_of}
 use Rattle.bcv_client.specs.Events.{StandsOver, client_side, client_up}
 use Rattle.bcv_client.specs.NewTasks.{IsUnmoved, is_busy}
-use Rattle.bcv_client.specs.Steps.{EndsJob, RequestsOver, StepsOf, said_over}
+use Rattle.bcv_client.specs.Steps.{EndsJob, RequestOver, RequestsOver, StepsOf, said_over}
 use Rattle.bcv_client.specs.TaskParts.{done_by, task_part}
-use Rattle.bcv_client.specs.TaskStarts.{OnlyTasks}
 use Rattle.bcv_client.specs.TaskTaken.{StepsQuietly, TaskOut}
 use Rattle.bcv_client.specs.declared.client.Client.{Client}
 use Rattle.bcv_client.specs.declared.job.Job.{Job}
-use Rattle.bcv_client.specs.declared.job.Job.TheVariants as job
+use Rattle.bcv_client.proofs.BusyTasks.{busy_is}
+use Rattle.bcv_client.proofs.ReadsSaw.{saw_fewer, saw_same}
 use Rattle.bcv_client.proofs.SameParts.{stands_with, tasks_alone, unmoved}
+use Rattle.bcv_client.proofs.TasksPut.{all_filtered}
 
 -- ---- the list
 
@@ -80,15 +79,7 @@ others_parts c n ss = filter_map (task_part c) (λ (t : parts.Task). not (t.numb
 
 -- ---- the form
 
-all_filtered : (P : Slot Job → Type 0) (test : Slot Job → Bool) (ss : List (Slot Job)) → AllByRecursion P ss → AllByRecursion P (filter test ss)
-all_filtered P test [] all = tt
-all_filtered P test (s ∷ ss) all =
-    elim (test s) as (λ (b : Bool). AllByRecursion P (cond b (s ∷ filter test ss) (filter test ss))) [
-      | true ↦ (all.0, all_filtered P test ss all.1)
-      | false ↦ all_filtered P test ss all.1
-    ]
-
-few_filtered : (test : Slot Job → Bool) (ss : List (Slot Job)) → length (filter test ss) ≤ length ss
+pub few_filtered : (test : Slot Job → Bool) (ss : List (Slot Job)) → length (filter test ss) ≤ length ss
 few_filtered test [] = omega arith
 few_filtered test (s ∷ ss) =
     elim (test s) as (λ (b : Bool). length (cond b (s ∷ filter test ss) (filter test ss)) ≤ length (s ∷ ss)) [
@@ -126,13 +117,13 @@ none_left n (s ∷ ss) is =
       | false ↦ λ h. ap (λ (xs : List (Slot Job)). s ∷ xs) (none_left n ss h)
     ] is
 
--- the task of a number is in form
-pub job_in_form : (seen : Seen) (c : Catalog) (o : Open) (n : ℕ) (ss : List (Slot Job)) (j : Job) → AllByRecursion (λ (s : Slot Job). JobInForm seen c o s.item) ss → item_at n ss ≡ Some j → JobInForm seen c o j
-job_in_form seen c o n [] j all is = absurd (let e : None ≡ Some j = is in cc)
-job_in_form seen c o n (s ∷ ss) j all is =
-    elim (s.number == n) as (λ (b : Bool). option_map (λ (x : Slot Job). x.item) (cond b (Some s) (find (λ (x : Slot Job). x.number == n) ss)) ≡ Some j → JobInForm seen c o j) [
-      | true ↦ λ h. subst (λ (i : Job). JobInForm seen c o i) (same_Some s.item j h) all.0
-      | false ↦ λ h. job_in_form seen c o n ss j all.1 h
+-- what all tasks have, the task of a number has
+pub found_has : (P : Job → Type 0) (n : ℕ) (ss : List (Slot Job)) (j : Job) → AllByRecursion (λ (s : Slot Job). P s.item) ss → item_at n ss ≡ Some j → P j
+found_has P n [] j all is = absurd (let e : None ≡ Some j = is in cc)
+found_has P n (s ∷ ss) j all is =
+    elim (s.number == n) as (λ (b : Bool). option_map (λ (x : Slot Job). x.item) (cond b (Some s) (find (λ (x : Slot Job). x.number == n) ss)) ≡ Some j → P j) [
+      | true ↦ λ h. subst P (same_Some s.item j h) all.0
+      | false ↦ λ h. found_has P n ss j all.1 h
     ] is
 
 -- ---- the client
@@ -152,7 +143,8 @@ module _ {D : Type 0} {g : _} (old new : Client D g) (n : ℕ) (j : Job) (out : 
 
   pub stands_without : (shown : D → DiskShown) (log : List Entry) (f : Free) → StandsOver shown old log f → StandsOver shown new log f
   stands_without shown log f stands =
-      stands_with shown old new log f (without_task n here) out.only parts_without (fits_without_task log here (entries_of old) n stands.fits) stands
+      stands_with shown old new log f (without_task n here) out.only parts_without (fits_without_task log here (entries_of old) n stands.fits)
+      (saw_same (history_of log) (other_slots n old.tasks.items) new.tasks.items out.left (saw_fewer (history_of log) (λ (s : Slot Job). not (s.number == n)) old.tasks.items stands.saw)) stands
 
   pub runs_alone : IsInForm old.seen old.ledger.databases old.txns old.tasks.items → is_publishing (done_by old.ledger.databases j) ≡ true → runs_publication (parts_of new) ≡ false
   runs_alone form busy =
@@ -169,7 +161,7 @@ with_front i (x ∷ xs) b c goes has =
       | false ↦ λ h. with_front i xs b c goes h
     ] has
 
-behind : (i : Id16) (a b : List Id16) → has_id i b ≡ true → has_id i (a ++ b) ≡ true
+pub behind : (i : Id16) (a b : List Id16) → has_id i b ≡ true → has_id i (a ++ b) ≡ true
 behind i [] b has = has
 behind i (x ∷ xs) b has = elim (id_eq x i) as (λ (t : Bool). (t || has_id i (xs ++ b)) ≡ true) [
   | true ↦ refl
@@ -194,29 +186,10 @@ without_mine n p i has =
 
 -- ---- the machine
 
-busy_view : (c : Catalog) (set taken : ℕ) (t : PublishTask) → is_publishing (done_by c (job.Publish set taken t)) ≡ true
-busy_view c set taken (task.Create x) = refl
-busy_view c set taken (task.Copy id s) = refl
-busy_view c set taken (task.Upload id s) = refl
-busy_view c set taken (task.Cleanup id s) = refl
-
--- a job is one that publishes or resolves
-pub busy_is : (c : Catalog) (j : Job) → is_publishing (done_by c j) ≡ is_busy j
-busy_is c (job.Fetch access txn page) = refl
-busy_is c job.Poll = refl
-busy_is c (job.Publish set taken t) = busy_view c set taken t
-busy_is c job.Resolve = refl
-
-pub busy_jobs : (c : Catalog) (ss : List (Slot Job)) → list_any (λ (t : parts.Task). is_publishing t.job) (map (task_part c) ss) ≡ list_any (λ (s : Slot Job). is_busy s.item) ss
-busy_jobs c [] = refl
-busy_jobs c (s ∷ ss) =
-    ap (λ (b : Bool). b || list_any (λ (t : parts.Task). is_publishing t.job) (map (task_part c) ss)) (busy_is c s.item)
-    ∙ ap (λ (b : Bool). is_busy s.item || b) (busy_jobs c ss)
-
 -- there is no task of the number
 pub none_steps : {D : Type 0} {g : _} (shown : D → DiskShown) (old new : Client D g) (n : ℕ) → IsUnmoved old new → item_at n old.tasks.items ≡ None → StepsQuietly shown old new n reply.NoTask
 none_steps shown old new n still none moment log f stands = (
-  stands_with shown old new log f (parts_of old) still.only (unmoved old new still) stands.fits stands,
+  stands_with shown old new log f (parts_of old) still.only (unmoved old new still) stands.fits (saw_same (history_of log) old.tasks.items new.tasks.items still.tasks stands.saw) stands,
   λ o second.
       subst (λ (p : parts.Parts). Steps (m.task_at (client_up log old) n) (client_side moment log old f) (client_up log old) o (record { published = None; reply = reply.NoTask }) second (side_of moment (history_of log) p f)) (sym (unmoved old new still))
       (no_task_steps moment (history_of log) (parts_of old) f n o (record { published = None; reply = reply.NoTask }) second (none_part old.ledger.databases n old.tasks.items none) (refl, refl)),
@@ -250,36 +223,42 @@ not_both true true is = is refl
 not_both true false is = refl
 not_both false b is = refl
 
--- a job that ends with its step
-module _ {D : Type 0} {g : _} (told : DiskTold) (shown : D → DiskShown) (store : StoreTold) (before after : StoreShown) (old mid new : Client D g) (n : ℕ) (j : Job) (r : Reply)
+-- the step of a job whose task was taken out
+module _ {D : Type 0} {g : _} (shown : D → DiskShown) (store : StoreTold) (before after : StoreShown) (old mid new : Client D g) (n : ℕ) (j : Job) (r : Reply)
     (out : TaskOut old mid n j) (is_open : is_busy j ≡ true → is_shut old.ledger.log ≡ false) where
   mine_less : (mine : List Id16) → Includes mine (mine_of (parts_of old)) → Includes mine (mine_of (parts_of mid))
   mine_less mine all = λ i has.
       all i (without_mine n (parts_of old) i (subst (λ (p : parts.Parts). has_id i (mine_of p) ≡ true) (parts_without old mid n j out) has))
 
-  pub ended_steps : EndsJob told shown store before after mid new j r → store.tells → told.tells → RequestsOver (StepsOf n) (r ≢ reply.NoMemory) shown store before after old new r
-  ended_steps ends tells disk moment mine f stands all grew armed =
-      let over = ends tells disk n moment mine f (stands_without old mid n j out shown before.log f stands) (mine_less mine all) grew armed in
-      record {
-        growth = over.growth;
-        free = over.free;
-        stands = over.stands;
-        event = λ is.
-            let e = over.event is in
-            let log : List Entry = before.log ++ over.growth.others in
-            record {
-              made = e.made;
-              request = e.request;
-              planned = e.planned;
-              unmade = e.unmade;
-              cause = e.cause;
-              goes = λ o under.
-                  let step = e.goes o under in (
-                    step.0,
-                    step_is_of_task moment (history_of log) (parts_of old) f n (record { number = n; job = done_by old.ledger.databases j }) o (said_over log after.log r) step.0 (client_side moment after.log new over.free)
-                        (part_at old mid n j out) (not_both (is_shut old.ledger.log) (is_publishing (done_by old.ledger.databases j)) (λ busy. is_open (sym (busy_is old.ledger.databases j) ∙ busy)))
-                        (subst (λ (l : Ledger D g). StepsJob (seen_job l.databases.kept.pending (done_by l.databases j)) n (side_of moment (history_of log) (without_task n (parts_of old)) f) (seen_up (history_of log) (without_task n (parts_of old))) o (said_over log after.log r) step.0 (client_side moment after.log new over.free)) out.only.ledger
-                        (subst (λ (p : parts.Parts). StepsJob (seen_job mid.ledger.databases.kept.pending (done_by mid.ledger.databases j)) n (side_of moment (history_of log) p f) (seen_up (history_of log) p) o (said_over log after.log r) step.0 (client_side moment after.log new over.free)) (parts_without old mid n j out) step.1)),
-                  );
-            };
-      }
+  -- is that of its number
+  pub step_of_number : (IsOne : Type 0) (mine : List Id16) (moment : ℕ) (f : Free)
+      → RequestOver (StepsJob (seen_job mid.ledger.databases.kept.pending (done_by mid.ledger.databases j)) n) IsOne shown store mine before after mid new moment f r
+      → RequestOver (StepsOf n) IsOne shown store mine before after old new moment f r
+  step_of_number IsOne mine moment f over = record {
+    growth = over.growth;
+    free = over.free;
+    stands = over.stands;
+    event = λ is.
+        let e = over.event is in
+        let log : List Entry = before.log ++ over.growth.others in
+        record {
+          made = e.made;
+          request = e.request;
+          planned = e.planned;
+          unmade = e.unmade;
+          cause = e.cause;
+          goes = λ o under.
+              let step = e.goes o under in (
+                step.0,
+                step_is_of_task moment (history_of log) (parts_of old) f n (record { number = n; job = done_by old.ledger.databases j }) o (said_over log after.log r) step.0 (client_side moment after.log new over.free)
+                    (part_at old mid n j out) (not_both (is_shut old.ledger.log) (is_publishing (done_by old.ledger.databases j)) (λ busy. is_open (sym (busy_is old.ledger.databases j) ∙ busy)))
+                    (subst (λ (l : Ledger D g). StepsJob (seen_job l.databases.kept.pending (done_by l.databases j)) n (side_of moment (history_of log) (without_task n (parts_of old)) f) (seen_up (history_of log) (without_task n (parts_of old))) o (said_over log after.log r) step.0 (client_side moment after.log new over.free)) out.only.ledger
+                    (subst (λ (p : parts.Parts). StepsJob (seen_job mid.ledger.databases.kept.pending (done_by mid.ledger.databases j)) n (side_of moment (history_of log) p f) (seen_up (history_of log) p) o (said_over log after.log r) step.0 (client_side moment after.log new over.free)) (parts_without old mid n j out) step.1)),
+              );
+        };
+  }
+
+  -- one that ends with its step
+  pub ended_steps : (told : DiskTold) → EndsJob told shown store before after mid new j r → store.tells → told.tells → RequestsOver (StepsOf n) (r ≢ reply.NoMemory) shown store before after old new r
+  ended_steps told ends tells disk moment mine f stands all grew armed =
+      step_of_number (r ≢ reply.NoMemory) mine moment f (ends tells disk n moment mine f (stands_without old mid n j out shown before.log f stands) (mine_less mine all) grew armed)

@@ -1,16 +1,14 @@
 -- A transaction that ends with its tasks: the client stays in form, and it is an event of the machine.
-use Rattle.std.proofs.Common.{◌≡◌, ◌∙◌, ◌==◌, ◌≤◌, ◌<◌, ℕ, Bool, true, false, cond, not, nat_eq, List, [], ◌∷◌, map, filter, find, length, Option, Some, None, IfSome, is_none, option_map, refl, sym, ap, subst, inl, inr, arith}
+use Rattle.std.proofs.Common.{◌≡◌, ◌∙◌, ◌==◌, ◌≤◌, ℕ, Bool, true, false, cond, not, List, [], ◌∷◌, map, filter, length, Option, Some, None, IfSome, is_none, option_map, refl, sym, ap, subst, inl, inr, arith}
 use Rattle.std.specs.Prelude.{unwrap_or}
 use Rattle.std.specs.List.{AllByRecursion}
 use Rattle.std.proofs.lemmas.Bool.{cases_Bool}
-use Rattle.std.proofs.lemmas.Option.{same_Some}
 use Rattle.bcv_base.specs.declared.id.Id16.{Id16}
 use Rattle.bcv_base.specs.declared.log.Entry.{Entry as LogEntry}
 use Rattle.bcv_base.specs.declared.seen.Latest.{Latest}
 use Rattle.bcv_base.specs.declared.seen.Seen.{Seen}
 use Rattle.bcv_base.specs.History.{Item, history_of}
 use Rattle.bcv_cache.specs.Entry.{Blocks}
-use Rattle.bcv_cache.specs.Entry as cache
 use Rattle.bcv_clientlaws.specs.Different.{AtMostOne}
 use Rattle.bcv_clientlaws.specs.Forms.{AreInForm}
 use Rattle.bcv_clientlaws.specs.TaskLists.{fetches_for, task_number, task_numbers, with_ended_txn}
@@ -24,7 +22,7 @@ use Rattle.bcv_clientstate.specs.Fits.{Fits}
 use Rattle.bcv_clientstate.specs.Journaled.{Journaled}
 use Rattle.bcv_clientstate.specs.Parts as parts
 use Rattle.bcv_clientstate.specs.Parts.{Parts, Task}
-use Rattle.bcv_clientstate.specs.SeenClient.{Free, seen_up, side_of}
+use Rattle.bcv_clientstate.specs.SeenClient.{Free, side_of}
 use Rattle.bcv_databases.specs.Catalog.{Catalog}
 use Rattle.bcv_databases.specs.Changes.{KeepsFrom, Trims}
 use Rattle.bcv_databases.specs.declared.known.Known.{Known}
@@ -35,7 +33,6 @@ use Rattle.bcv_machine.specs.Refusals.{UnlessRefused, first_reason}
 use Rattle.bcv_machine.specs.State as m
 use Rattle.bcv_machine.specs.State.{Side, Up, with_up}
 use Rattle.bcv_model.specs.declared.kept.Kept.{Kept}
-use Rattle.bcv_model.specs.declared.reply.Reply.{Reply}
 use Rattle.bcv_model.specs.declared.reply.Reply.TheVariants as reply
 use Rattle.bcv_pages.specs.Held.{Held}
 use Rattle.bcv_slots.specs.declared.Slot.{Slot}
@@ -44,7 +41,7 @@ use Rattle.bcv_tasks.specs.declared.publish_task.PublishTask.TheVariants as task
 use Rattle.bcv_transaction.specs.declared.open_txn.OpenTxn.{OpenTxn}
 use Rattle.bcv_transaction.specs.FitLaws.{KeepsTxnView}
 use Rattle.bcv_transaction.specs.ListCalls.{EndsIn, EndsOf}
-use Rattle.bcv_transaction.specs.MachineCalls.{AreFit, open_part}
+use Rattle.bcv_transaction.specs.MachineCalls.{open_part}
 use Rattle.bcv_transaction.specs.Open.{AreOpen, AreOpenWith, CanRead, Open, set_in, txn_at, without_txn}
 use Rattle.bcv_transaction.specs.OpenCalls.{CacheCalls, CallsIn}
 use Rattle.bcv_transaction.proofs.FitLaws.{calls_leave_fit}
@@ -52,11 +49,12 @@ use Rattle.bcv_transaction.proofs.MachineLists.{seen, seen_at}
 use Rattle.bcv_client.specs.ClientForm.{HasSize, IsInForm, JobInForm, ReadsSet}
 use Rattle.bcv_client.specs.ClientParts.{done_by, entries_of, no_set, parts_of, sets_in, task_part}
 use Rattle.bcv_client.specs.InForm.{InForm}
-use Rattle.bcv_client.specs.Events.{IsNoEvent, Locally, StandsOver, client_side, client_up}
+use Rattle.bcv_client.specs.Events.{Locally, StandsOver, client_side, client_up}
 use Rattle.bcv_client.specs.Transactions.{EndsOver, KeepsLedger, is_fetch_for, is_upload_of, needed_in, without_fetches}
 use Rattle.bcv_client.specs.declared.client.Client.{Client}
 use Rattle.bcv_client.specs.declared.job.Job.{Job}
 use Rattle.bcv_client.specs.declared.job.Job.TheVariants as job
+use Rattle.bcv_client.proofs.ReadsSaw.{saw_fewer, saw_same}
 use Rattle.bcv_client.proofs.SetsTrimmed.{done_same, job_form, txns_keep, txns_need, txns_read, uploads_need}
 use Rattle.bcv_client.proofs.TxnForms.{block_of, size_alike}
 use Rattle.bcv_client.proofs.TxnStands.{are_fit, entries_there, stands_for}
@@ -218,7 +216,8 @@ module _ (seen : Seen) (c d : Catalog) (o rest : Open) (tasks : List (Slot Job))
 -- ---- the client
 
 module _ {D : Type 0} {g : _} (old new : Client D g) (n : ℕ) (keeps : KeepsLedger old new) (less : OneLess old.txns new.txns n)
-    (tasks : map (task_part new.ledger.databases) new.tasks.items ≡ filter (λ (t : Task). not (fetches_for n t.job)) (map (task_part old.ledger.databases) old.tasks.items)) where
+    (tasks : map (task_part new.ledger.databases) new.tasks.items ≡ filter (λ (t : Task). not (fetches_for n t.job)) (map (task_part old.ledger.databases) old.tasks.items))
+    (left : new.tasks.items ≡ without_fetches n old.tasks.items) where
   abbrev before : ℕ → Held
   before = sets_in old.ledger.databases
 
@@ -255,6 +254,7 @@ module _ {D : Type 0} {g : _} (old new : Client D g) (n : ℕ) (keeps : KeepsLed
         sound = stands.sound;
         fits = subst (λ (q : Parts). Fits q (entries_of new) log) (sym parts_ended)
             (entries_fit log (with_ended_txn n (parts_of old)) (entries_of old) (entries_of new) (fits_with_ended_txn log (parts_of old) (entries_of old) n stands.fits) (entries_there (history_of log) new.txns.cache fit.cached));
+        saw = saw_same (history_of log) (without_fetches n old.tasks.items) new.tasks.items left (saw_fewer (history_of log) (λ (s : Slot Job). not (is_fetch_for n s.item)) old.tasks.items stands.saw);
         journaled = subst (λ (l : ClientLog D _). Journaled shown l new.ledger.databases.kept f) (sym keeps.log) (subst (λ (k : Kept). Journaled shown old.ledger.log k f) (sym keeps.kept) stands.journaled);
         slots = stands.slots ∙ sym less.slots;
       }
@@ -348,7 +348,7 @@ module _ {D : Type 0} {g : _} (shown : D → DiskShown) (old new : Client D g) (
     form = subst (λ (s : Seen). IsInForm s new.ledger.databases new.txns new.tasks.items) (sym only.seen_is)
         (subst (IsInForm old.seen new.ledger.databases new.txns) (sym tasks)
         (form_ended old.seen old.ledger.databases new.ledger.databases old.txns new.txns old.tasks.items n set form less_open trims_left views_left (parts_of old) refl));
-    machine = ends_locally old new n keeps_ledger less_open tasks_seen shown t form found calls;
+    machine = ends_locally old new n keeps_ledger less_open tasks_seen tasks shown t form found calls;
     ledger = keeps_ledger;
     ends = record { answers = refl; ends = calls; tasks = tasks; trims = trims };
   }

@@ -1,5 +1,5 @@
 -- Transactions and cache after a call that ends none are in form, where they were before it.
-use Rattle.std.proofs.Common.{◌≡◌, ◌∙◌, ◌==◌, ℕ, ◌≤◌, Bool, true, false, cond, nat_eq, List, [], ◌∷◌, map, find, Option, Some, None, IfSome, MatchOption, option_map, refl, sym, ap, subst, inl, inr}
+use Rattle.std.proofs.Common.{◌≡◌, ◌∙◌, ℕ, ◌≤◌, Bool, true, false, cond, nat_eq, List, [], ◌∷◌, map, Option, Some, None, IfSome, MatchOption, option_map, refl, sym, ap, subst, inl, inr}
 use Rattle.std.specs.List.{AllByRecursion, IsDistinct}
 use Rattle.std.proofs.lemmas.Bool.{cases_Bool, eqb-true}
 use Rattle.std.proofs.lemmas.Option.{same_Some}
@@ -14,7 +14,7 @@ use Rattle.bcv_transaction.specs.declared.open_txn.OpenTxn.{OpenTxn}
 use Rattle.bcv_transaction.specs.Open.{Open, base_view, is_numbered, numbers_of, txn_at, with_txn}
 use Rattle.bcv_transaction.proofs.TxnPlaces.{HaveNot, others_differ, with_none}
 use Rattle.bcv_base.specs.declared.seen.Seen.{Seen}
-use Rattle.bcv_client.specs.ClientForm.{FetchInForm, HasSize, IsInForm, IsPageOf, JobInForm, ReadsSet, TasksInForm}
+use Rattle.bcv_client.specs.ClientForm.{HasSize, IsInForm, IsPageOf, JobInForm, ReadsSet}
 use Rattle.bcv_client.specs.declared.job.Job.{Job}
 use Rattle.bcv_client.specs.declared.job.Job.TheVariants as job
 
@@ -113,7 +113,7 @@ job_alike seen c o n same job.Poll is = is
 job_alike seen c o n same (job.Publish set taken t) is = is
 job_alike seen c o n same job.Resolve is = is
 
-jobs_alike : (seen : Seen) (c : Catalog) (o n : Open) → map unheld n.txns ≡ map unheld o.txns → (ss : List (Slot Job))
+pub jobs_alike : (seen : Seen) (c : Catalog) (o n : Open) → map unheld n.txns ≡ map unheld o.txns → (ss : List (Slot Job))
     → AllByRecursion (λ (s : Slot Job). JobInForm seen c o s.item) ss → AllByRecursion (λ (s : Slot Job). JobInForm seen c n s.item) ss
 jobs_alike seen c o n same [] all = tt
 jobs_alike seen c o n same (s ∷ ss) all = (job_alike seen c o n same s.item all.0, jobs_alike seen c o n same ss all.1)

@@ -1,8 +1,6 @@
 -- A look and a free are events of the machine.
-use Rattle.std.proofs.Common.{◌≡◌, ◌∙◌, ℕ, List, Option, Some, None, IfSome, option_map, refl, sym, ap, subst}
-use Rattle.bcv_base.specs.declared.log.Entry.{Entry as LogEntry}
+use Rattle.std.proofs.Common.{◌≡◌, ℕ, List, subst}
 use Rattle.bcv_base.specs.History.{Item, history_of}
-use Rattle.bcv_clientstate.specs.SeenClient.{Free}
 use Rattle.bcv_disk.specs.DiskShown.{DiskShown}
 use Rattle.bcv_machine.specs.Reading.{Frees}
 use Rattle.bcv_machine.specs.State.{Side, Up}

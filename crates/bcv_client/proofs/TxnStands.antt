@@ -1,23 +1,21 @@
 -- A client over a log and the machine's transactions; and the client with other transactions over the same log.
-use Rattle.std.proofs.Common.{◌≡◌, ◌∙◌, ℕ, List, [], ◌∷◌, map, Option, Some, None, IfSome, refl, sym, ap, subst}
+use Rattle.std.proofs.Common.{◌≡◌, ◌∙◌, ℕ, List, map, Option, Some, None, IfSome, sym, ap, subst}
 use Rattle.std.specs.Global.{Vec}
 use Rattle.std.specs.List.{AllByRecursion}
-use Rattle.std.proofs.lemmas.Option.{same_Some}
 use Rattle.bcv_base.specs.declared.id.Id16.{Id16}
 use Rattle.bcv_base.specs.declared.log.Entry.{Entry as LogEntry}
 use Rattle.bcv_base.specs.declared.manifest.Manifest.{Manifest}
 use Rattle.bcv_base.specs.declared.seen.Latest.{Latest}
 use Rattle.bcv_base.specs.declared.seen.Seen.{Seen}
 use Rattle.bcv_base.specs.History.{Item, history_of, last_of}
-use Rattle.bcv_cache.specs.Entry.{Blocks, Entry}
+use Rattle.bcv_cache.specs.Entry.{Blocks}
 use Rattle.bcv_clientlog.specs.LogParts.{is_shut}
 use Rattle.bcv_clientlaws.specs.Different.{with_txns}
-use Rattle.bcv_clientlaws.specs.TaskLists.{with_tasks}
 use Rattle.bcv_clientlaws.proofs.OtherParts.{entries_fit, txns_fit}
-use Rattle.bcv_clientstate.specs.Fits.{Fits, FitsEntry, FitsSeen, FitsTxn}
+use Rattle.bcv_clientstate.specs.Fits.{Fits, FitsEntry}
 use Rattle.bcv_clientstate.specs.Journaled.{Journaled}
-use Rattle.bcv_clientstate.specs.Parts.{OpenTxn, Parts}
-use Rattle.bcv_clientstate.specs.SeenClient.{Free, seen_txn, seen_up, side_of}
+use Rattle.bcv_clientstate.specs.Parts.{Parts}
+use Rattle.bcv_clientstate.specs.SeenClient.{Free, side_of}
 use Rattle.bcv_clientstate.specs.SeenContainer.{block_in}
 use Rattle.bcv_clientstate.proofs.Bases.{last_there}
 use Rattle.bcv_databases.specs.Catalog.{Catalog}
@@ -30,7 +28,7 @@ use Rattle.bcv_machine.specs.State as m
 use Rattle.bcv_machine.specs.State.{with_up}
 use Rattle.bcv_pages.specs.Held.{Held}
 use Rattle.bcv_slots.specs.declared.Slot.{Slot}
-use Rattle.bcv_transaction.specs.MachineCalls.{AreFit, StandsFor, open_part, open_parts, seen_txns, side_with}
+use Rattle.bcv_transaction.specs.MachineCalls.{AreFit, StandsFor, open_part, open_parts, side_with}
 use Rattle.bcv_transaction.specs.Open.{Open}
 use Rattle.bcv_transaction.proofs.FitLaws.{parts_are_seen}
 use Rattle.bcv_client.specs.ClientForm.{HasSize}
@@ -40,6 +38,7 @@ use Rattle.bcv_client.specs.Events.{StandsOver, client_side, client_up}
 use Rattle.bcv_client.specs.Transactions.{OnlyReading, OnlyTxns}
 use Rattle.bcv_client.specs.declared.client.Client.{Client}
 use Rattle.bcv_client.specs.declared.job.Job.{Job}
+use Rattle.bcv_client.proofs.ReadsSaw.{saw_same}
 
 -- ---- the cache
 
@@ -138,6 +137,7 @@ module _ {D : Type 0} {g : _} (old new : Client D g) (only : OnlyTxns old new) w
         sound = stands.sound;
         fits = subst (λ (q : Parts). Fits q (entries_of new) log) (sym parts_other)
             (entries_fit log others (entries_of old) (entries_of new) with_them (entries_there (history_of log) new.txns.cache fit.cached));
+        saw = saw_same (history_of log) old.tasks.items new.tasks.items (ap (λ (ts : Vec (Slot Job)). ts.items) only.tasks) stands.saw;
         journaled = subst (λ (l : Ledger D g). Journaled shown l.log l.databases.kept f) (sym only.reading.ledger) stands.journaled;
         slots = stands.slots ∙ sym slots;
       }

@@ -1,5 +1,5 @@
 -- What always holds of a client, whatever its store and its disk tell.
-use Rattle.std.specs.Prelude.{◌≡◌, ◌≤◌, ◌-◌, ℕ, true, List, [], ◌∷◌, length, map, Option, Some, None, IfSome, MatchOption, is_some}
+use Rattle.std.specs.Prelude.{◌≡◌, ◌≤◌, ◌⊎◌, ◌-◌, ℕ, true, List, [], ◌∷◌, length, map, Option, Some, None, IfSome, MatchOption, is_some}
 use Rattle.std.specs.List.{AllByRecursion}
 use Rattle.bcv_base.specs.declared.seen.Seen.{Seen}
 use Rattle.bcv_base.specs.ManifestRules.{is_block_size}
@@ -15,7 +15,7 @@ use Rattle.bcv_slots.specs.declared.Slot.{Slot}
 use Rattle.bcv_slots.specs.Numbered.{AreDifferent, numbers_of}
 use Rattle.bcv_tasks.specs.declared.publish_task.PublishTask.{PublishTask}
 use Rattle.bcv_tasks.specs.declared.publish_task.PublishTask.TheVariants as task
-use Rattle.bcv_tasks.specs.State.{IsRunning, pending_of, refused_of, upload_of}
+use Rattle.bcv_tasks.specs.State.{IsRunning, is_ready, latest_of, left_of, pending_of, refused_of, upload_of}
 use Rattle.bcv_transaction.specs.declared.open_txn.OpenTxn.{OpenTxn}
 use Rattle.bcv_transaction.specs.Open.{CanRead, Open, txn_at, view_in}
 use Rattle.bcv_upload.specs.State.{HoldsView}
@@ -70,9 +70,15 @@ abbrev pub ViewInForm : Seen → Catalog → ℕ → ℕ → PublishTask → Typ
 ViewInForm seen c set taken (task.Upload id s) = UploadInForm seen c set taken s
 ViewInForm seen c set taken _ = Unit {0}
 
+-- a publication of which a put was refused has its manifest to read and to put again, and nothing else
+abbrev pub TriesAgain : List ℕ → PublishTask → Type 0
+TriesAgain [] t = Unit {0}
+TriesAgain (n ∷ ns) t = (is_ready t ≡ true) ⊎ ((latest_of t ≡ None) × (left_of t ≡ 2))
+
 pub record PublishInForm (seen : Seen) (c : Catalog) (set taken : ℕ) (t : PublishTask) : Type 0 where
   pub running : IsRunning t
   pub waits : PendingFor c.kept.pending (pending_of taken t) (refused_of t)
+  pub again : TriesAgain (refused_of t) t
   pub upload : IfSome (upload_of taken t) (CanUpload c.kept.locals)
   pub view : ViewInForm seen c set taken t
 

@@ -1,8 +1,9 @@
 -- What a call says: it is one event of the machine, for every log that the client fits.
-use Rattle.std.specs.Prelude.{◌≡◌, ◌≢◌, ℕ, true, List}
+use Rattle.std.specs.Prelude.{◌≡◌, ℕ, true, List}
+use Rattle.std.specs.List.{AllByRecursion}
 use Rattle.bcv_base.specs.declared.log.Entry.{Entry}
-use Rattle.bcv_base.specs.History.{history_of}
-use Rattle.bcv_clientstate.specs.Fits.{Fits}
+use Rattle.bcv_base.specs.History.{Item, history_of}
+use Rattle.bcv_clientstate.specs.Fits.{Fits, FitsSeen}
 use Rattle.bcv_clientstate.specs.Journaled.{Journaled}
 use Rattle.bcv_clientstate.specs.SeenClient.{Free, seen_up, side_of}
 use Rattle.bcv_dbmap.specs.Sound.{IsSoundLog}
@@ -10,16 +11,29 @@ use Rattle.bcv_disk.specs.DiskShown.{DiskShown}
 use Rattle.bcv_machine.specs.State as m
 use Rattle.bcv_model.specs.declared.reply.Reply.{Reply}
 use Rattle.bcv_model.specs.declared.reply.Reply.TheVariants as reply
+use Rattle.bcv_publisher.specs.WorkStep.{seen_before}
+use Rattle.bcv_slots.specs.declared.Slot.{Slot}
+use Rattle.bcv_tasks.specs.State.{publish_of}
 use Rattle.bcv_client.specs.ClientParts.{entries_of, parts_of}
 use Rattle.bcv_client.specs.declared.client.Client.{Client}
+use Rattle.bcv_client.specs.declared.job.Job.{Job}
+use Rattle.bcv_client.specs.declared.job.Job.TheVariants as job
 
 -- ---- what a client stands for
+
+-- what a publication read before refused puts lies in the log
+abbrev pub SawItsReads : List Item → Job → Type 0
+SawItsReads past (job.Fetch access txn page) = Unit {0}
+SawItsReads past job.Poll = Unit {0}
+SawItsReads past (job.Publish set taken t) = FitsSeen past (seen_before (publish_of t))
+SawItsReads past job.Resolve = Unit {0}
 
 -- a client stands over a sound log: it fits the log, and its journal holds what it keeps; what is no function of client and log
 -- is free but for the slots
 pub record StandsOver {D : Type 0} {g : _} (shown : D → DiskShown) (c : Client D g) (log : List Entry) (f : Free) : Type 0 where
   pub sound : IsSoundLog log
   pub fits : Fits (parts_of c) (entries_of c) log
+  pub saw : AllByRecursion (λ (s : Slot Job). SawItsReads (history_of log) s.item) c.tasks.items
   pub journaled : Journaled shown c.ledger.log c.ledger.databases.kept f
   pub slots : f.slots ≡ c.txns.slots
 

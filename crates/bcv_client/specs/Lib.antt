@@ -14,3 +14,12 @@ pub mod Steps
 pub mod PollOver
 pub mod ResolveOver
 pub mod FetchOver
+pub mod PublicationOver
+pub mod Planned
+pub mod TaskRequests
+pub mod PublicationPut
+pub mod TaskCalls
+pub mod AskCalls
+pub mod TxnBegins
+pub mod ClientUp
+pub mod NewUploads

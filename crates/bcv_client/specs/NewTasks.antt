@@ -1,5 +1,5 @@
 -- Asks that start a task: the first reason that holds is answered, and nothing has changed; else the task is the last one.
-use Rattle.std.specs.Prelude.{◌≡◌, ◌<◌, ℕ, Bool, true, false, List, length, Option, Some, None, Result, Ok, Err, is_some, not, nat_le, vec_capacity, vec_len, [], ◌∷◌, if◌then◌else◌}
+use Rattle.std.specs.Prelude.{◌≡◌, ◌⊎◌, ◌<◌, ℕ, Bool, true, false, List, length, Option, Some, None, Result, Ok, Err, is_some, not, nat_le, vec_capacity, vec_len, [], ◌∷◌, if◌then◌else◌}
 use Rattle.bcv_base.specs.declared.id.Id16.{Id16}
 use Rattle.bcv_base.specs.declared.log.Entry.{Entry}
 use Rattle.bcv_base.specs.declared.names.Draw.TheVariants as draw
@@ -16,6 +16,7 @@ use Rattle.bcv_machine.specs.Refusals.{first_reason}
 use Rattle.bcv_machine.specs.State as m
 use Rattle.bcv_model.specs.declared.reply.Reply.{Reply}
 use Rattle.bcv_model.specs.declared.reply.Reply.TheVariants as reply
+use Rattle.bcv_tasks.specs.declared.publish_task.PublishTask.TheVariants as task
 use Rattle.bcv_tasks.specs.State.{left_of}
 use Rattle.bcv_client.specs.ClientParts.{parts_of}
 use Rattle.bcv_client.specs.Events.{LocallyOver, StandsOver}
@@ -88,12 +89,17 @@ abbrev pub left_in : Job → ℕ
 left_in (job.Publish set taken t) = left_of t
 left_in _ = 1
 
+-- where memory is missing no name was drawn, but for that of an upload, which asks for memory after the draw
+abbrev pub DrewNone : Job → NamesShown → NamesShown → Id16 → Type 0
+DrewNone (job.Publish set taken (task.Upload i s)) before after id = (after ≡ before) ⊎ Draws before after (draw.Drawn id)
+DrewNone _ before after id = after ≡ before
+
 -- one name is drawn exactly where a task starts; it is the publication's
 abbrev pub StartsDrawn : {D : Type 0} {g : _} → Client D g → Client D g → NamesShown → NamesShown → Id16 → Job → Option Reply → Reply → Type 0
 StartsDrawn old new before after id j (Some why) r = (r ≡ why) × IsUnmoved old new × (after ≡ before)
 StartsDrawn old new before after id j None (reply.Task n k) = StartsTask old new j (left_in j) (reply.Task n k) × IsId id × Draws before after (draw.Drawn id)
 StartsDrawn old new before after id j None reply.NamesFault = IsUnmoved old new × Draws before after draw.Failed
-StartsDrawn old new before after id j None reply.NoMemory = IsUnmoved old new × (after ≡ before)
+StartsDrawn old new before after id j None reply.NoMemory = IsUnmoved old new × DrewNone j before after id
 StartsDrawn old new before after id j None _ = ⊥
 
 -- no version has the name under which a task starts

@@ -1,5 +1,5 @@
 -- The task of a number is taken out of the list for its step, or has ended; or there is none.
-use Rattle.std.specs.Prelude.{◌≡◌, ◌<◌, ℕ, Bool, true, false, List, Option, Some, None, Result, Ok, Err, vec_capacity, vec_len}
+use Rattle.std.specs.Prelude.{◌≡◌, ◌<◌, ℕ, Bool, true, false, List, [], ◌∷◌, ◌++◌, length, nat_le, Some, None, Result, Ok, Err, vec_capacity, vec_len}
 use Rattle.bcv_base.specs.declared.log.Entry.{Entry}
 use Rattle.bcv_base.specs.declared.outcome.Outcome.{Outcome}
 use Rattle.bcv_clientlog.specs.LogParts.{is_shut}
@@ -10,7 +10,8 @@ use Rattle.bcv_machine.specs.State as m
 use Rattle.bcv_machine.specs.Step.{Steps}
 use Rattle.bcv_model.specs.declared.reply.Reply.{Reply}
 use Rattle.bcv_model.specs.declared.reply.Reply.TheVariants as reply
-use Rattle.bcv_slots.specs.Numbered.{item_at, other_slots}
+use Rattle.bcv_slots.specs.declared.Slot.{Slot}
+use Rattle.bcv_slots.specs.Numbered.{has_number, item_at, numbers_of, other_slots}
 use Rattle.bcv_client.specs.ClientForm.{JobInForm}
 use Rattle.bcv_client.specs.ClientParts.{parts_of}
 use Rattle.bcv_client.specs.Events.{StandsOver, client_side, client_up}
@@ -67,3 +68,21 @@ is_single (job.Fetch access txn page) = true
 is_single job.Poll = true
 is_single (job.Publish set taken t) = false
 is_single job.Resolve = true
+
+-- the client is the same one, has the same tasks, and was given as many commits
+pub record KeepsTasks {D : Type 0} {g : _} (old new : Client D g) : Type 0 where
+  pub id : new.id ≡ old.id
+  pub tasks : new.tasks ≡ old.tasks
+  pub taken : new.taken ≡ old.taken
+
+-- ---- a task that goes on
+
+-- no task has the number, and fewer than 16 run
+pub record CanGiveBack (n : ℕ) (tasks : List (Slot Job)) : Type 0 where
+  pub free : has_number n (numbers_of tasks) ≡ false
+  pub few : nat_le 16 (length tasks) ≡ false
+
+-- the task is the last one, under its number
+pub record GivesBack {D : Type 0} {g : _} (old new : Client D g) (n : ℕ) (j : Job) : Type 0 where
+  pub only : OnlyTasks old new
+  pub tasks : new.tasks.items ≡ old.tasks.items ++ record { number = n; item = j } ∷ []

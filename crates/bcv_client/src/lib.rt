@@ -8,20 +8,31 @@
 //! event.
 #![tactic(auto)]
 
+mod ask_form;
+mod call;
 mod client;
 mod fetch;
 mod job;
 mod local;
 mod page_reads;
+mod planned;
 mod poll;
+mod publication;
+mod publication_put;
+mod publication_work;
 mod publications;
 mod reading;
 mod resolve;
+mod rising;
 mod shown;
 mod single_step;
 mod starting;
 mod starts;
+mod step;
 mod task_list;
+mod trims;
 
+pub use bcv_risen::RiseFault as UpFault;
 pub use client::Client;
 pub use job::{Access, Job};
+pub use rising::Up;

@@ -1,21 +1,17 @@
 //! Commits and reverts: what a client writes without the store.
 ghost use Rattle.std.specs.Prelude.{◌≡◌, ◌<◌, ◌^◌, ◌+◌};
-ghost use Rattle.std.specs.Option.{option_map};
-ghost use Rattle.bcv_databases.specs.Catalog.{shown_view};
 ghost use Rattle.bcv_ledger.specs.LocalCalls.{LedgerCommits};
 ghost use Rattle.bcv_machine.specs.LocalWriting.{Commits, Reverts};
 ghost use Rattle.bcv_model.specs.Commits.{writes_of};
 ghost use Rattle.bcv_client.specs.Events.{Noting};
 ghost use Rattle.bcv_client.specs.InForm.{InForm};
-ghost use Rattle.bcv_client.specs.LocalWrites.{ClientReverts, OnlyLedger, TrimsWhere, is_fine, set_in_view};
+ghost use Rattle.bcv_client.specs.LocalWrites.{ClientReverts, OnlyLedger, OnlyWrites, is_fine};
 
 use crate::client::Client;
+use crate::trims::{set_of, trim_where};
 use bcv_base::DbName;
-use bcv_databases::DatabaseView;
 use bcv_disk::Disk;
-use bcv_ledger::Ledger;
 use bcv_model::{Commit, Reply};
-use bcv_transaction::Transactions;
 use std::alloc::Global;
 
 impl<D: Disk> Client<D> {
@@ -26,7 +22,7 @@ impl<D: Disk> Client<D> {
         requires taken { self.old.taken < 2 ^ 63 }
         ensures form { InForm self.new }
         ensures taken { self.new.taken ≡ self.old.taken + 1 }
-        ensures others { OnlyLedger self.old self.new }
+        ensures others { OnlyWrites self.old self.new }
         ensures commits { LedgerCommits D.told D.shown self.old.ledger self.new.ledger db commit
             result }
         ensures steps { D.told.tells → Noting D.shown
@@ -43,7 +39,6 @@ impl<D: Disk> Client<D> {
     pub fn revert(&mut self, alloc: Global, db: DbName) -> Reply
         requires form { InForm self.old }
         ensures form { InForm self.new }
-        ensures taken { self.new.taken ≡ self.old.taken }
         ensures others { OnlyLedger self.old self.new }
         ensures reverts { ClientReverts D.told D.shown self.old self.new db result }
         ensures steps { D.told.tells → Noting D.shown (λ s u t. Reverts s u db result t)
@@ -52,19 +47,16 @@ impl<D: Disk> Client<D> {
         let busy = self.runs_publication();
         let set = set_of(self.ledger.find(&db));
         let reply = self.ledger.revert(alloc, db, busy);
-        trim_where(&mut self.ledger, &self.txns, set, is_fine(&reply));
+        trim_where(
+            &mut self.ledger,
+            &self.txns,
+            &self.tasks,
+            set,
+            is_fine(&reply),
+        );
         let _ = self.ledger.databases.kept();
         reply
     }
-}
-
-// The set that a database's commits are in.
-fn set_of(view: Option<DatabaseView<'_>>) -> Option<usize>
-    ensures { result ≡ set_in_view (option_map shown_view view.entry) }
-{
-    let view = view?;
-    let commits = view.commits?;
-    Some(commits.set)
 }
 
 // Whether a call did what it was asked.
@@ -72,18 +64,6 @@ fn is_fine(reply: &Reply) -> bool
     ensures { result ≡ is_fine reply.now }
 {
     matches!(reply, Reply::Fine)
-}
-
-// Forgets what nobody needs any more of a set, where commits in it were given up.
-fn trim_where<D: Disk>(ledger: &mut Ledger<D>, txns: &Transactions, set: Option<usize>, gone: bool)
-    ensures { TrimsWhere gone ledger.old ledger.new txns.now }
-{
-    if !gone {
-        return;
-    }
-    if let Some(set) = set {
-        ledger.trim(set, txns.oldest(set));
-    }
 }
 
 // A commit's size in pages.

@@ -1,5 +1,5 @@
 //! The asks that start a publication.
-ghost use Rattle.std.specs.Prelude.{◌≡◌, [], None, true, is_some};
+ghost use Rattle.std.specs.Prelude.{◌≡◌, [], IfOk, None, true, is_some};
 ghost use Rattle.std.specs.Option.{option_map};
 ghost use Rattle.bcv_base.specs.ManifestRules.{is_block_size};
 ghost use Rattle.bcv_clientlaws.specs.Starts.{kind_asked};
@@ -7,31 +7,32 @@ ghost use Rattle.bcv_clientstate.specs.PartRefusals.{runs_publication};
 ghost use Rattle.bcv_clientstate.specs.StartRefusals.{kind_reasons, runs_all, start_reason};
 ghost use Rattle.bcv_dbcopy.specs.State.{FitsPages, new_task};
 ghost use Rattle.bcv_cleanup.specs.State.{new_cleanup};
-ghost use Rattle.bcv_databases.specs.Catalog.{shown_view};
+ghost use Rattle.bcv_databases.specs.Catalog.{found_at, shown_view};
 ghost use Rattle.bcv_machine.specs.Refusals.{first_reason};
-ghost use Rattle.bcv_machine.specs.Starting.{Starts};
+ghost use Rattle.bcv_machine.specs.Starting.{Starts, upload_of as machine_upload};
 ghost use Rattle.bcv_machine.specs.State.{Cleaning, Creating};
 ghost use Rattle.bcv_tasks.specs.State.{IsRunning, left_of, refused_of, upload_of};
 ghost use Rattle.bcv_tasks.specs.declared.publish_task.PublishTask.TheVariants.{Cleanup as CleanupTask, Copy as CopyOf, Create as CreateOf};
 ghost use Rattle.bcv_client.specs.ClientParts.{parts_of};
 ghost use Rattle.bcv_client.specs.InForm.{InForm};
-ghost use Rattle.bcv_client.specs.NewTasks.{CanPublish, DrawnAs, DrawsUnless, IsTask, StartsPublication, reason_with, removal_reason_by};
+ghost use Rattle.bcv_client.specs.NewTasks.{CanPublish, DrawnAs, DrawsUnless, IsTask, StartsPublication, left_in, reason_with, removal_reason_by};
+ghost use Rattle.bcv_client.specs.NewUploads.{IsNewUpload, commits_reason, upload_job, upload_reason_by, upload_refusal};
 ghost use Rattle.bcv_client.specs.TaskStarts.{StartsTask};
 ghost use Rattle.bcv_client.specs.declared.job.Job.TheVariants.{Publish};
 
 use crate::client::Client;
 use crate::job::Job;
-use bcv_base::{Draw, Id16, Names};
+use crate::reading::view_base;
+use crate::task_list::MOST_TASKS;
+use bcv_base::{DbName, Draw, Id16, Names};
 use bcv_cleanup::Cleanup;
-use bcv_databases::DatabaseView;
+use bcv_databases::{CommitsAt, DatabaseView};
 use bcv_dbcopy::{CopyPlan, CopyTask};
 use bcv_disk::Disk;
 use bcv_model::Reply;
 use bcv_tasks::{CreateTask, PublishTask};
-use std::alloc::Global;
-
-/// How many tasks run at most.
-const MOST_TASKS: usize = 16;
+use bcv_upload::Upload;
+use std::alloc::{AllocError, Global};
 
 impl<D: Disk> Client<D> {
     /// Starts to make a container of this block size, which keeps a dead block for so many seconds.
@@ -89,6 +90,61 @@ impl<D: Disk> Client<D> {
         };
         let task = CopyTask::new(alloc, plan, self.id, id);
         self.publish(PublishTask::Copy(id, task))
+    }
+
+    /// Starts to upload the commits of a database, all that it has now. A name may have been drawn where memory is missing.
+    pub(crate) fn start_upload<N: Names>(
+        &mut self,
+        alloc: Global,
+        names: &mut N,
+        db: DbName,
+    ) -> Reply
+        requires form { InForm self.old }
+        ensures form { InForm self.new }
+        ensures starts { StartsPublication D.shown
+            (λ id s u t. Starts s u (machine_upload s.client.kept db) id result t) self.old self.new
+            (N.shown names.old) (N.shown names.new) (upload_refusal self.old db)
+            (upload_job self.old.ledger.databases self.old.id
+            (found_at self.old.ledger.databases db)) result }
+    {
+        let own = upload_reason(self.ledger.find(&db));
+        let id = match self.draw(names, own) {
+            Ok(id) => id,
+            Err(reply) => return reply,
+        };
+        let Ok(job) = self.new_upload(alloc, &db, id) else {
+            return Reply::NoMemory;
+        };
+        let left = left_in(&job);
+        self.put_last(job, left)
+    }
+
+    // The upload of all commits that a database has now.
+    fn new_upload(&self, alloc: Global, db: &DbName, id: Id16) -> Result<Job, AllocError>
+        requires form { InForm self.now }
+        requires some { upload_reason_by (found_at self.now.ledger.databases db.now) ≡ None }
+        ensures job { IfOk result (λ j. j ≡ upload_job self.now.ledger.databases self.now.id
+            (found_at self.now.ledger.databases db.now) id) }
+        ensures new { IfOk result (IsNewUpload self.now.ledger.databases self.now.id db.now id) }
+    {
+        let ledger = &self.ledger;
+        let Some(view) = ledger.find(db) else {
+            unreachable!()
+        };
+        let Some(at) = view.commits else {
+            unreachable!()
+        };
+        let Some(pages) = ledger.databases.pages(at.set) else {
+            unreachable!()
+        };
+        pages.commits_fit(at.from, at.to);
+        let base = view_base(alloc, &view)?;
+        let upload = Upload::new(alloc, &base, pages, self.id, id)?;
+        Ok(Job::Publish {
+            set: at.set,
+            taken: at.to - at.from,
+            task: PublishTask::Upload(id, upload),
+        })
     }
 
     /// Starts to delete dead blocks.
@@ -217,6 +273,43 @@ fn removal_reason(view: Option<DatabaseView<'_>>) -> Option<Reply>
         return Some(Reply::HasLocal);
     }
     None
+}
+
+// What speaks against an upload alone: its database is not known, or has no commits.
+fn upload_reason(view: Option<DatabaseView<'_>>) -> Option<Reply>
+    ensures { result ≡ upload_reason_by (option_map shown_view view.entry) }
+{
+    let Some(view) = view else {
+        return Some(Reply::NoDatabase);
+    };
+    commits_reason(view.commits)
+}
+
+// What speaks against an upload of these commits.
+fn commits_reason(commits: Option<CommitsAt>) -> Option<Reply>
+    ensures { result ≡ commits_reason commits }
+{
+    let Some(at) = commits else {
+        return Some(Reply::Nothing);
+    };
+    if at.from == at.to {
+        return Some(Reply::Nothing);
+    }
+    None
+}
+
+// How many requests a new job has left.
+fn left_in(job: &Job) -> u32
+    ensures { result ≡ left_in job.now }
+{
+    match job {
+        Job::Publish {
+            set: _,
+            taken: _,
+            task,
+        } => task.left(),
+        _ => 1,
+    }
 }
 
 // Draws a name.

@@ -4,18 +4,18 @@ ghost use Rattle.bcv_clientlog.specs.LogParts.{is_shut};
 ghost use Rattle.bcv_clientstate.specs.PartRefusals.{runs_publication};
 ghost use Rattle.bcv_client.specs.ClientParts.{parts_of};
 ghost use Rattle.bcv_client.specs.InForm.{InForm};
-ghost use Rattle.bcv_client.specs.LocalWrites.{OnlyLedger, TrimsSets};
-ghost use Rattle.bcv_client.specs.ResolveOver.{ClientResolves, is_resolved};
+ghost use Rattle.bcv_client.specs.LocalWrites.{OnlyLedger};
+ghost use Rattle.bcv_client.specs.ResolveOver.{ClientResolves, is_resolved, uploaded_set};
 ghost use Rattle.bcv_client.specs.Steps.{EndsJob};
 ghost use Rattle.bcv_client.specs.declared.job.Job.TheVariants.{Resolve};
 
 use crate::client::Client;
+use crate::trims::{set_of, trim_where};
 use bcv_disk::Disk;
 use bcv_ledger::Ledger;
 use bcv_model::Reply;
 use bcv_publisher::resolve_step;
 use bcv_store::Store;
-use bcv_transaction::Transactions;
 use std::alloc::Global;
 
 impl<D: Disk> Client<D> {
@@ -37,35 +37,24 @@ impl<D: Disk> Client<D> {
         let _ = self.ledger.databases.kept();
         let set = uploaded_set(&self.ledger);
         let reply = resolve_step(alloc, &mut self.ledger, store, self.id, &self.seen);
-        trim_uploaded(&mut self.ledger, &self.txns, set, is_resolved(&reply));
+        trim_where(
+            &mut self.ledger,
+            &self.txns,
+            &self.tasks,
+            set,
+            is_resolved(&reply),
+        );
         reply
     }
 }
 
 // The set with the commits of the database that the pending publication uploads.
-fn uploaded_set<D: Disk>(ledger: &Ledger<D>) -> Option<usize> {
+fn uploaded_set<D: Disk>(ledger: &Ledger<D>) -> Option<usize>
+    ensures { result ≡ uploaded_set ledger.now.databases ledger.now.databases.kept.pending }
+{
     let pending = ledger.pending()?;
     let upload = pending.upload.as_ref()?;
-    let commits = ledger.find(&upload.entry.name)?.commits?;
-    Some(commits.set)
-}
-
-// Forgets what nobody needs any more of a set, where commits in it were published. No upload runs meanwhile.
-#[tactic(none)]
-fn trim_uploaded<D: Disk>(
-    ledger: &mut Ledger<D>,
-    txns: &Transactions,
-    set: Option<usize>,
-    resolved: bool,
-)
-    ensures { TrimsSets ledger.old ledger.new txns.now }
-{
-    if !resolved {
-        return;
-    }
-    if let Some(set) = set {
-        ledger.trim(set, txns.oldest(set));
-    }
+    set_of(ledger.find(&upload.entry.name))
 }
 
 // Whether a resolve found the version of the pending publication.

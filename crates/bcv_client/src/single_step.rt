@@ -3,7 +3,7 @@ ghost use Rattle.std.specs.Prelude.{◌≡◌, true};
 ghost use Rattle.bcv_publisher.specs.PollStep.{IsReadForm};
 ghost use Rattle.bcv_client.specs.InForm.{InForm};
 ghost use Rattle.bcv_client.specs.Steps.{EndsJob};
-ghost use Rattle.bcv_client.specs.TaskTaken.{CanStep, is_single};
+ghost use Rattle.bcv_client.specs.TaskTaken.{CanStep, KeepsTasks, is_single};
 
 use crate::client::Client;
 use crate::job::Job;
@@ -22,7 +22,7 @@ impl<D: Disk> Client<D> {
         requires single { is_single job.now ≡ true }
         ensures form { InForm self.new }
         ensures read { IsReadForm self.new.seen self.new.latest }
-        ensures tasks { self.new.tasks ≡ self.old.tasks }
+        ensures only { KeepsTasks self.old self.new }
         ensures ends { EndsJob D.told D.shown S.told (S.shown store.old) (S.shown store.new)
             self.old self.new job.now result }
     {

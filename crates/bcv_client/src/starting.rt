@@ -10,12 +10,10 @@ ghost use Rattle.bcv_client.specs.TaskStarts.{StartsTask};
 
 use crate::client::Client;
 use crate::job::Job;
+use crate::task_list::MOST_TASKS;
 use bcv_disk::Disk;
 use bcv_model::Reply;
 use bcv_slots::{Slot, add, free_number};
-
-/// How many tasks run at most.
-const MOST_TASKS: usize = 16;
 
 impl<D: Disk> Client<D> {
     /// Starts a task that has so many requests left.

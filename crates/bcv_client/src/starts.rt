@@ -13,12 +13,10 @@ ghost use Rattle.bcv_client.specs.declared.job.Job.TheVariants.{Poll, Resolve};
 
 use crate::client::Client;
 use crate::job::Job;
+use crate::task_list::MOST_TASKS;
 use bcv_disk::Disk;
 use bcv_model::Reply;
 use bcv_slots::Slot;
-
-/// How many tasks run at most.
-const MOST_TASKS: usize = 16;
 
 impl<D: Disk> Client<D> {
     /// Starts a poll.
@@ -74,8 +72,8 @@ fn any_publishes(tasks: &[Slot<Job>]) -> bool
     tasks.iter().any(|slot| publishes(&slot.item))
 }
 
-// Whether a job publishes or resolves.
-fn publishes(job: &Job) -> bool
+/// Whether a job publishes or resolves.
+pub(crate) fn publishes(job: &Job) -> bool
     ensures { result ≡ is_busy job.now }
 {
     match job {

@@ -1,10 +1,7 @@
-use Rattle.std.proofs.Common.{◌≡◌, ◌∙◌, ◌≤◌, ℕ, List, Option, Some, None, IfSome, ap, refl, subst, sym}
-use Rattle.bcv_databases.specs.Changes.{KeepsFrom, Trims}
+use Rattle.std.proofs.Common.{◌≡◌, ◌∙◌, ℕ, Option, Some, refl, subst, sym}
 use Rattle.bcv_model.specs.declared.reply.Reply.TheVariants as reply
-use Rattle.bcv_slots.specs.declared.Slot.{Slot}
 use Rattle.bcv_transaction.specs.Open.{set_in}
-use Rattle.bcv_client.specs.Transactions.{EndsTxn, needed_in}
-use Rattle.bcv_client.specs.declared.job.Job.{Job}
+use Rattle.bcv_client.specs.Transactions.{EndsTxn}
 use Rattle.bcv_client.proofs.TxnEnded.{EndsWhole, OnlyEnds, ends_from, keeps_all, none_ends, set_missing}
 use Rattle.bcv_client.proofs.client.Client.end.Goals as goal
 

@@ -1,4 +1,4 @@
-use Rattle.std.proofs.Common.{refl, subst, sym}
+use Rattle.std.proofs.Common.{subst, sym}
 use Rattle.bcv_model.specs.declared.reply.Reply.{Reply}
 use Rattle.bcv_client.specs.Steps.{EndsJob}
 use Rattle.bcv_client.specs.declared.job.Job.TheVariants.{Fetch}

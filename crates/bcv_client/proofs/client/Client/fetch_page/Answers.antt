@@ -1,4 +1,4 @@
-use Rattle.std.proofs.Common.{◌≡◌, None, refl, subst, sym, ap}
+use Rattle.std.proofs.Common.{None, refl, subst, sym, ap}
 use Rattle.bcv_machine.specs.State as m
 use Rattle.bcv_pages.specs.Held.{Held}
 use Rattle.bcv_transaction.specs.StepCalls.{Steps}

@@ -1,4 +1,4 @@
-use Rattle.std.proofs.Common.{◌≡◌, Option, None, refl, subst, sym}
+use Rattle.std.proofs.Common.{◌≡◌, None, refl, subst, sym}
 use Rattle.bcv_machine.specs.State.{ToHold}
 use Rattle.bcv_pages.specs.Held.{Held}
 use Rattle.bcv_transaction.specs.Open.{txn_at}

@@ -1,4 +1,4 @@
-use Rattle.std.proofs.Common.{◌≡◌, Option, None}
+use Rattle.std.proofs.Common.{◌≡◌, None}
 use Rattle.bcv_transaction.specs.Open.{txn_at}
 use Rattle.bcv_client.specs.PagesFound.{IsPagesOf}
 use Rattle.bcv_client.proofs.PagesCome.{looks_over, none_looks}

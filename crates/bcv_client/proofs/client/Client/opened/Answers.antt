@@ -1,5 +1,4 @@
-use Rattle.std.proofs.Common.{◌≡◌, ◌∙◌, Option, None, Some, ap, sym}
-use Rattle.bcv_base.specs.declared.seen.TxnBase.{TxnBase}
+use Rattle.std.proofs.Common.{◌≡◌, ◌∙◌, None, Some, ap, sym}
 use Rattle.bcv_transaction.specs.Open.{base_in, txn_at}
 use Rattle.bcv_client.specs.PagesFound.{IsPagesOf}
 use Rattle.bcv_client.proofs.PagesFound.{base_there, can_view, not_opened, opened_so}

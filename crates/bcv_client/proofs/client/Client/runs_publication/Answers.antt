@@ -3,7 +3,7 @@ use Rattle.std.specs.List.{list_any}
 use Rattle.bcv_slots.specs.declared.Slot.{Slot}
 use Rattle.bcv_client.specs.NewTasks.{is_busy}
 use Rattle.bcv_client.specs.declared.job.Job.{Job}
-use Rattle.bcv_client.proofs.TasksStart.{busy_jobs}
+use Rattle.bcv_client.proofs.BusyTasks.{busy_jobs}
 use Rattle.bcv_client.proofs.client.Client.runs_publication.Goals as goal
 
 pub returns : goal.returns

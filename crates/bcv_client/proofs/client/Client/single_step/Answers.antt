@@ -1,8 +1,6 @@
-use Rattle.std.proofs.Common.{◌≡◌, false, true, refl, subst, sym, ap}
-use Rattle.bcv_publisher.specs.PollStep.{IsReadForm}
-use Rattle.bcv_client.specs.ClientForm.{JobInForm}
+use Rattle.std.proofs.Common.{◌≡◌, false, true, refl, subst, sym}
 use Rattle.bcv_client.specs.Steps.{EndsJob}
-use Rattle.bcv_client.specs.TaskTaken.{CanStep, is_single}
+use Rattle.bcv_client.specs.TaskTaken.{CanStep}
 use Rattle.bcv_client.specs.declared.job.Job.{Job}
 use Rattle.bcv_client.specs.declared.job.Job.TheVariants as job
 use Rattle.bcv_client.proofs.PollForm.{read_still}
@@ -44,8 +42,10 @@ returns-in-Fetch-clause-form g c = c.fetch.ensures.form
 pub returns-in-Fetch-clause-read : goal.returns-in-Fetch-clause-read
 returns-in-Fetch-clause-read g c = read_still c.args.self.now.seen _ c.args.self.now.latest _ c.fetch.ensures.fetches.fetches.only.reading.seen c.fetch.ensures.fetches.fetches.only.reading.latest c.requires.read
 
-pub returns-in-Fetch-clause-tasks : goal.returns-in-Fetch-clause-tasks
-returns-in-Fetch-clause-tasks g c = c.fetch.ensures.fetches.fetches.only.tasks
+pub returns-in-Fetch-clause-only : goal.returns-in-Fetch-clause-only
+returns-in-Fetch-clause-only g c =
+    let only = c.fetch.ensures.fetches.fetches.only in
+    record { id = only.reading.id; tasks = only.tasks; taken = only.reading.taken }
 
 pub returns-in-Fetch-clause-ends : goal.returns-in-Fetch-clause-ends
 returns-in-Fetch-clause-ends g c =
@@ -58,8 +58,8 @@ returns-in-Poll-clause-form g c = c.poll.ensures.form
 pub returns-in-Poll-clause-read : goal.returns-in-Poll-clause-read
 returns-in-Poll-clause-read g c = c.poll.ensures.read
 
-pub returns-in-Poll-clause-tasks : goal.returns-in-Poll-clause-tasks
-returns-in-Poll-clause-tasks g c = c.poll.ensures.only.tasks
+pub returns-in-Poll-clause-only : goal.returns-in-Poll-clause-only
+returns-in-Poll-clause-only g c = record { id = c.poll.ensures.only.id; tasks = c.poll.ensures.only.tasks; taken = c.poll.ensures.only.taken }
 
 pub returns-in-Poll-clause-ends : goal.returns-in-Poll-clause-ends
 returns-in-Poll-clause-ends g c =
@@ -70,10 +70,10 @@ pub returns-in-Resolve-clause-form : goal.returns-in-Resolve-clause-form
 returns-in-Resolve-clause-form g c = c.resolve.ensures.form
 
 pub returns-in-Resolve-clause-read : goal.returns-in-Resolve-clause-read
-returns-in-Resolve-clause-read g c = read_still c.args.self.now.seen _ c.args.self.now.latest _ c.resolve.ensures.only.seen c.resolve.ensures.only.latest c.requires.read
+returns-in-Resolve-clause-read g c = read_still c.args.self.now.seen _ c.args.self.now.latest _ c.resolve.ensures.only.writes.seen c.resolve.ensures.only.writes.latest c.requires.read
 
-pub returns-in-Resolve-clause-tasks : goal.returns-in-Resolve-clause-tasks
-returns-in-Resolve-clause-tasks g c = c.resolve.ensures.tasks
+pub returns-in-Resolve-clause-only : goal.returns-in-Resolve-clause-only
+returns-in-Resolve-clause-only g c = record { id = c.resolve.ensures.only.writes.id; tasks = c.resolve.ensures.tasks; taken = c.resolve.ensures.only.taken }
 
 pub returns-in-Resolve-clause-ends : goal.returns-in-Resolve-clause-ends
 returns-in-Resolve-clause-ends g c =

@@ -1,4 +1,4 @@
-use Rattle.std.proofs.Common.{None, ap, refl, sym}
+use Rattle.std.proofs.Common.{ap, refl, sym}
 use Rattle.bcv_clientlaws.specs.Starts.{kind_asked}
 use Rattle.bcv_dbcopy.specs.State as copy
 use Rattle.bcv_client.proofs.PublicationsStart.{can_by, copy_start, form_unmoved, refused_start, unmoved_by}

@@ -1,4 +1,4 @@
-use Rattle.std.proofs.Common.{None, ap, refl, sym}
+use Rattle.std.proofs.Common.{None, refl}
 use Rattle.bcv_machine.specs.State as m
 use Rattle.bcv_client.proofs.PublicationsStart.{can_by, create_start, form_unmoved, refused_start, unmoved_by}
 use Rattle.bcv_client.proofs.client.Client.start_create.Goals as goal

@@ -1,10 +1,12 @@
 use Rattle.std.proofs.Common.{◌≡◌, ◌∙◌, Option, None, Some, refl, subst, sym}
 use Rattle.std.specs.Prelude.{IsSome}
 use Rattle.bcv_slots.specs.Numbered.{item_at}
+use Rattle.bcv_client.specs.ClientForm.{JobInForm}
 use Rattle.bcv_client.specs.ClientParts.{parts_of}
 use Rattle.bcv_client.specs.TaskTaken.{TaskOut}
 use Rattle.bcv_client.specs.declared.job.Job.{Job}
-use Rattle.bcv_client.proofs.TasksTaken.{busy_is, ends_by, form_out, goes_by, job_in_form, none_left, none_steps, runs_alone, shut_steps}
+use Rattle.bcv_client.proofs.BusyTasks.{busy_is}
+use Rattle.bcv_client.proofs.TasksTaken.{ends_by, form_out, found_has, goes_by, none_left, none_steps, runs_alone, shut_steps}
 use Rattle.bcv_client.proofs.client.Client.take_task.Goals as goal
 
 pub returns-in_default-clause-form : goal.returns-in_default-clause-form
@@ -81,7 +83,7 @@ returns-clause-takes g c =
     } in (
       out,
       record {
-        form = job_in_form old.seen old.ledger.databases old.txns c.args.number old.tasks.items c.in-Some.job c.requires.form.tasks_are.each found;
+        form = found_has (λ (i : Job). JobInForm old.seen old.ledger.databases old.txns i) c.args.number old.tasks.items c.in-Some.job c.requires.form.tasks_are.each found;
         alone = λ busy. runs_alone old new c.args.number c.in-Some.job out c.requires.form (busy_is old.ledger.databases c.in-Some.job ∙ busy);
         is_open = λ busy. goes_by _ c.closed.result c.ends_shut.result _ c.ends_shut.ensures c.closed.ensures c.if-ends_shut.false busy;
         room = c.take.ensures.room (subst (λ (x : Option Job). IsSome x) (sym c.in-Some.is) refl);

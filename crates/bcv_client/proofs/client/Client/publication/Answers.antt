@@ -1,0 +1,76 @@
+use Rattle.std.proofs.Common.{◌<◌, ◌∙◌, refl, subst, sym, vec_capacity, vec_len}
+use Rattle.std.specs.Global.{Vec}
+use Rattle.bcv_slots.specs.declared.Slot.{Slot}
+use Rattle.bcv_client.specs.TaskTaken.{CanGiveBack}
+use Rattle.bcv_client.specs.declared.job.Job.{Job}
+use Rattle.bcv_client.specs.declared.job.Job.TheVariants as job
+use Rattle.bcv_client.proofs.PollForm.{read_still}
+use Rattle.bcv_client.proofs.PublicationGoesOn.{back_where, in_form_on, publishes, single_still, stays_where}
+use Rattle.bcv_client.proofs.client.Client.publication.Goals as goal
+
+pub publish_once-reply-requires-clause-form : goal.publish_once-reply-requires-clause-form
+publish_once-reply-requires-clause-form g c = c.requires.form
+
+pub publish_once-reply-requires-clause-read : goal.publish_once-reply-requires-clause-read
+publish_once-reply-requires-clause-read g c = c.requires.read
+
+pub publish_once-reply-requires-clause-can : goal.publish_once-reply-requires-clause-can
+publish_once-reply-requires-clause-can g c = c.requires.can
+
+pub publish_once-reply-requires-clause-rule : goal.publish_once-reply-requires-clause-rule
+publish_once-reply-requires-clause-rule g c = c.requires.rule
+
+pub give_back-requires-clause-form : goal.give_back-requires-clause-form
+give_back-requires-clause-form g c = c.publish_once-reply.ensures.form
+
+pub give_back-requires-clause-place : goal.give_back-requires-clause-place
+give_back-requires-clause-place g c = subst (λ (ts : Vec (Slot Job)). CanGiveBack c.args.number ts.items) (sym c.publish_once-reply.ensures.only.tasks) c.requires.place
+
+pub give_back-requires-clause-room : goal.give_back-requires-clause-room
+give_back-requires-clause-room g c = subst (λ (ts : Vec (Slot Job)). vec_len ts < vec_capacity ts) (sym c.publish_once-reply.ensures.only.tasks) c.requires.can.room
+
+pub give_back-requires-clause-job : goal.give_back-requires-clause-job
+give_back-requires-clause-job g c =
+    in_form_on c.publish_once-reply.new.self c.args.set c.args.taken c.publish_once-reply.result c.publish_once-reply.new.task c.is_working.result c.is_working.ensures c.if-not-is_working.false
+    c.publish_once-reply.ensures.goes_on
+
+pub give_back-requires-clause-single : goal.give_back-requires-clause-single
+give_back-requires-clause-single g c =
+    single_still c.args.self.now c.publish_once-reply.new.self (job.Publish c.args.set c.args.taken c.publish_once-reply.new.task) c.publish_once-reply.ensures.only (c.requires.can.alone refl)
+
+pub returns-then-not-is_working-clause-form : goal.returns-then-not-is_working-clause-form
+returns-then-not-is_working-clause-form g c = c.publish_once-reply.ensures.form
+
+pub returns-then-not-is_working-clause-read : goal.returns-then-not-is_working-clause-read
+returns-then-not-is_working-clause-read g c = c.publish_once-reply.ensures.read
+
+pub returns-then-not-is_working-clause-same : goal.returns-then-not-is_working-clause-same
+returns-then-not-is_working-clause-same g c = record { id = c.publish_once-reply.ensures.only.id; taken = c.publish_once-reply.ensures.only.taken }
+
+pub returns-then-not-is_working-clause-steps : goal.returns-then-not-is_working-clause-steps
+returns-then-not-is_working-clause-steps g c =
+    publishes g.D.Disk.told g.D.Disk.shown g.S.Store.told (g.S.Store.shown c.args.outside.now.store) (g.S.Store.shown c.publish_once-reply.new.outside.store) (g.N.Names.shown c.args.outside.now.names)
+    (g.N.Names.shown c.publish_once-reply.new.outside.names) (g.C.Clock.shown c.args.outside.now.clock) (g.C.Clock.shown c.publish_once-reply.new.outside.clock) c.args.self.now c.publish_once-reply.new.self
+    c.publish_once-reply.new.self c.args.number c.args.set c.args.taken c.args.task c.publish_once-reply.new.task c.publish_once-reply.result
+    (stays_where c.publish_once-reply.new.self c.args.number c.args.set c.args.taken c.publish_once-reply.result c.publish_once-reply.new.task (sym c.is_working.ensures ∙ c.if-not-is_working.true))
+    c.publish_once-reply.ensures.steps
+
+pub returns-clause-form : goal.returns-clause-form
+returns-clause-form g c = c.give_back.ensures.form
+
+pub returns-clause-read : goal.returns-clause-read
+returns-clause-read g c = read_still _ _ _ _ c.give_back.ensures.back.only.seen c.give_back.ensures.back.only.latest c.publish_once-reply.ensures.read
+
+pub returns-clause-same : goal.returns-clause-same
+returns-clause-same g c = record {
+  id = c.give_back.ensures.back.only.id ∙ c.publish_once-reply.ensures.only.id;
+  taken = c.give_back.ensures.back.only.taken ∙ c.publish_once-reply.ensures.only.taken;
+}
+
+pub returns-clause-steps : goal.returns-clause-steps
+returns-clause-steps g c =
+    publishes g.D.Disk.told g.D.Disk.shown g.S.Store.told (g.S.Store.shown c.args.outside.now.store) (g.S.Store.shown c.publish_once-reply.new.outside.store) (g.N.Names.shown c.args.outside.now.names)
+    (g.N.Names.shown c.publish_once-reply.new.outside.names) (g.C.Clock.shown c.args.outside.now.clock) (g.C.Clock.shown c.publish_once-reply.new.outside.clock) c.args.self.now c.publish_once-reply.new.self
+    c.give_back.new.self c.args.number c.args.set c.args.taken c.args.task c.publish_once-reply.new.task c.publish_once-reply.result
+    (back_where c.publish_once-reply.new.self c.give_back.new.self c.args.number c.args.set c.args.taken c.publish_once-reply.result c.publish_once-reply.new.task (sym c.is_working.ensures ∙ c.if-not-is_working.false) c.give_back.ensures.back)
+    c.publish_once-reply.ensures.steps

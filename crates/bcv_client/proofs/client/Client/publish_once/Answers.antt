@@ -1,0 +1,59 @@
+use Rattle.std.proofs.Common.{◌∙◌, sym}
+use Rattle.bcv_client.proofs.client.Client.publish_once.Goals as goal
+
+pub put_task-requires-clause-form : goal.put_task-requires-clause-form
+put_task-requires-clause-form g c = c.requires.form
+
+pub put_task-requires-clause-read : goal.put_task-requires-clause-read
+put_task-requires-clause-read g c = c.requires.read
+
+pub put_task-requires-clause-can : goal.put_task-requires-clause-can
+put_task-requires-clause-can g c = c.requires.can
+
+pub put_task-requires-clause-ready : goal.put_task-requires-clause-ready
+put_task-requires-clause-ready g c = sym c.ready.ensures ∙ c.if-ready.true
+
+pub work_task-requires-clause-form : goal.work_task-requires-clause-form
+work_task-requires-clause-form g c = c.requires.form
+
+pub work_task-requires-clause-read : goal.work_task-requires-clause-read
+work_task-requires-clause-read g c = c.requires.read
+
+pub work_task-requires-clause-can : goal.work_task-requires-clause-can
+work_task-requires-clause-can g c = c.requires.can
+
+pub work_task-requires-clause-not_ready : goal.work_task-requires-clause-not_ready
+work_task-requires-clause-not_ready g c = sym c.ready.ensures ∙ c.if-ready.false
+
+pub work_task-requires-clause-rule : goal.work_task-requires-clause-rule
+work_task-requires-clause-rule g c = c.requires.rule
+
+pub returns-then-ready-clause-form : goal.returns-then-ready-clause-form
+returns-then-ready-clause-form g c = c.put_task.ensures.form
+
+pub returns-then-ready-clause-read : goal.returns-then-ready-clause-read
+returns-then-ready-clause-read g c = c.put_task.ensures.read
+
+pub returns-then-ready-clause-only : goal.returns-then-ready-clause-only
+returns-then-ready-clause-only g c = c.put_task.ensures.only
+
+pub returns-then-ready-clause-goes_on : goal.returns-then-ready-clause-goes_on
+returns-then-ready-clause-goes_on g c = c.put_task.ensures.goes_on
+
+pub returns-then-ready-clause-steps : goal.returns-then-ready-clause-steps
+returns-then-ready-clause-steps g c = c.put_task.ensures.steps (g.N.Names.shown c.args.outside.now.names)
+
+pub returns-clause-form : goal.returns-clause-form
+returns-clause-form g c = c.work_task.ensures.form
+
+pub returns-clause-read : goal.returns-clause-read
+returns-clause-read g c = c.work_task.ensures.read
+
+pub returns-clause-only : goal.returns-clause-only
+returns-clause-only g c = c.work_task.ensures.only
+
+pub returns-clause-goes_on : goal.returns-clause-goes_on
+returns-clause-goes_on g c = c.work_task.ensures.goes_on
+
+pub returns-clause-steps : goal.returns-clause-steps
+returns-clause-steps g c = c.work_task.ensures.steps

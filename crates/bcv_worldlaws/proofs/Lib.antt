@@ -1,0 +1,10 @@
+pub mod Names
+pub mod PlacesStay
+pub mod JobNames
+pub mod Acting
+pub mod FirstWorld
+pub mod WorldOn
+pub mod NoDisk
+pub mod StruckSteps
+pub mod CrashedAsks
+pub mod QuietPlaces

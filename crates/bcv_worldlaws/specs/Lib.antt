@@ -1,0 +1,4 @@
+pub mod Places
+pub mod WorldLaws
+pub mod Strikes
+pub mod QuietActs
