@@ -12,7 +12,9 @@ use Rattle.bcv_base.specs.HistoryLaws.{has_id-first}
 use Rattle.bcv_base.specs.Ids.{has_id}
 use Rattle.bcv_base.specs.Moments.{ClockShown}
 use Rattle.bcv_clientstate.specs.PartRefusals.{runs_publication}
-use Rattle.bcv_clientstate.specs.Parts.{Parts}
+use Rattle.bcv_clientlaws.specs.OtherParts.{Includes}
+use Rattle.bcv_clientlaws.proofs.OtherParts.{includes_all}
+use Rattle.bcv_clientstate.specs.Parts.{Parts, mine_of, names_of_job}
 use Rattle.bcv_clientstate.specs.StartRefusals.{kind_reasons, runs_all, start_reason}
 use Rattle.bcv_dbmap.specs.Past.{has_version}
 use Rattle.bcv_disk.specs.DiskShown.{DiskShown, DiskTold}
@@ -26,14 +28,18 @@ use Rattle.bcv_model.specs.declared.reply.Reply.TheVariants as reply
 use Rattle.bcv_publisher.specs.WorkStep.{IsEvent}
 use Rattle.bcv_store.specs.StoreShown.{StoreShown, StoreTold}
 use Rattle.bcv_client.specs.AskCalls.{AsksAs, AsksOver, SameWith, taken_with}
+use Rattle.bcv_client.specs.CallNames.{flight_names}
 use Rattle.bcv_client.specs.ClientParts.{parts_of}
 use Rattle.bcv_client.specs.Events.{IsNoEvent, Locally, Noting, client_side, client_up}
 use Rattle.bcv_client.specs.NewTasks.{IsFresh, StartsDrawn, StartsPublication}
 use Rattle.bcv_client.specs.TaskCalls.{StepsNumber}
+use Rattle.bcv_client.specs.TaskParts.{done_by}
 use Rattle.bcv_client.specs.declared.client.Client.{Client}
 use Rattle.bcv_client.specs.declared.job.Job.{Job}
 use Rattle.bcv_client.proofs.PublicationsStart.{none_or_its}
+use Rattle.bcv_client.proofs.MyNames.{named_tasks, named_unmoved, slot_more_mine, tasks_were}
 use Rattle.bcv_client.proofs.NumberSteps.{adds_none, quiet_request}
+use Rattle.bcv_client.proofs.TasksPut.{slot}
 
 -- ---- replies
 
@@ -86,14 +92,14 @@ start_reasons p (m.Copying a b) = (refl, (refl, (refl, (refl, tt))))
 start_reasons p (m.Removing a) = (refl, (refl, (refl, (refl, (refl, tt)))))
 start_reasons p m.Cleaning = (refl, (refl, (refl, (refl, tt))))
 
-start_is_reason : (p : Parts) (kind : m.Kind) (r : Reply) → start_reason p kind ≡ Some r → is_reason r ≡ true
+pub start_is_reason : (p : Parts) (kind : m.Kind) (r : Reply) → start_reason p kind ≡ Some r → is_reason r ≡ true
 start_is_reason p kind r is =
     first_is_reason (((p.closed, reply.Closed) ∷ (is_some p.kept.pending, reply.Pending) ∷ (runs_publication p, reply.Busy) ∷ []) ++ (kind_reasons p kind ++ (runs_all p, reply.TooMany) ∷ [])) r (start_reasons p kind) is
 
 -- ---- an ask without a request
 
 pub as_noting : {D : Type 0} {g : _} (shown : D → DiskShown) (Goes : m.Side → m.Up → m.Side → Type 0) (old new : Client D g) (r : Reply) → Locally shown Goes old new r → Noting shown Goes old new r
-as_noting shown Goes old new r goes moment log f stands armed = let x = goes moment log f stands in record { free = f; stands = x.stands; goes = x.goes }
+as_noting shown Goes old new r goes moment log f stands armed = let x = goes moment log f stands in record { free = f; stands = x.stands; flight = includes_all (flight_names f.flight); goes = x.goes }
 
 pub quiet_ask : (name : Id16) (q : Ask) (s : m.Side) (u : m.Up) (o : Outcome) (r : Reply) (t : m.Side) → stepped_task q ≡ None → AsksQuietly s u q name r t
     → AsksAs name q s u o (record { published = None; reply = r }) false t
@@ -101,10 +107,10 @@ quiet_ask name q s u o r t is goes =
     subst (λ (x : Option ℕ). AsksOrSteps x s u q o (record { published = None; reply = r }) (record { name = name; second = false }) t) (sym is) (refl, goes)
 
 module _ {D : Type 0} {g : _} (told : DiskTold) (shown : D → DiskShown) (store : StoreTold) (before : StoreShown) (names : NamesShown) (clock : ClockShown) (old new : Client D g) (r : Reply) where
-  pub notes_ask : (q : Ask) → stepped_task q ≡ None → publishes q ≡ false → r ≢ reply.NamesFault
+  pub notes_ask : (q : Ask) → stepped_task q ≡ None → publishes q ≡ false → r ≢ reply.NamesFault → Includes (mine_of (parts_of old)) (mine_of (parts_of new))
       → (told.tells → Noting shown (λ s u t. AsksQuietly s u q old.id r t) old new r)
       → AsksOver told shown store before before names names clock clock old new q r
-  notes_ask q steps starts names_are goes = record {
+  notes_ask q steps starts names_are own goes = record {
     name = old.id;
     calls = record {
       ids = [];
@@ -114,17 +120,17 @@ module _ {D : Type 0} {g : _} (told : DiskTold) (shown : D → DiskShown) (store
       reads = tt;
       over = λ tells disk moment mine f stands all draws unused at grew armed.
           let x = goes disk moment before.log f stands armed in
-          quiet_request (AsksAs old.id q) (IsEvent names names clock clock r) shown store mine before old new moment f x.free r stands.sound x.stands
+          quiet_request (AsksAs old.id q) (IsEvent names names clock clock r) shown store mine before old new moment f x.free r stands.sound x.stands (λ i has. all i (own i has)) (λ flies i has. flies i (x.flight i has))
           (λ is o. quiet_ask old.id q (client_side moment before.log old f) (client_up before.log old) o r (client_side moment before.log new x.free) steps
           (x.goes.event (some_event r is.memory names_are)));
     };
     named = λ e. absurd (let no : false ≡ true = sym (ap (λ (b : Bool). b && is_task r) starts) ∙ e in cc);
   }
 
-  pub locally_ask : (q : Ask) → stepped_task q ≡ None → publishes q ≡ false → r ≢ reply.NamesFault
+  pub locally_ask : (q : Ask) → stepped_task q ≡ None → publishes q ≡ false → r ≢ reply.NamesFault → Includes (mine_of (parts_of old)) (mine_of (parts_of new))
       → Locally shown (λ s u t. AsksQuietly s u q old.id r t) old new r
       → AsksOver told shown store before before names names clock clock old new q r
-  locally_ask q steps starts names_are goes = notes_ask q steps starts names_are (λ tells. as_noting shown (λ s u t. AsksQuietly s u q old.id r t) old new r goes)
+  locally_ask q steps starts names_are own goes = notes_ask q steps starts names_are own (λ tells. as_noting shown (λ s u t. AsksQuietly s u q old.id r t) old new r goes)
 
 -- ---- the step of a task
 
@@ -189,11 +195,23 @@ module _ {D : Type 0} {g : _} (old new : Client D g) (before after : NamesShown)
       }
   drew id None reasons _ d = absurd d
 
+-- the names of a client whose publication starts are its own and the drawn one
+starts_named : {D : Type 0} {g : _} (mine : List Id16) (old new : Client D g) (before after : NamesShown) (id : Id16) (j : Job) (why : Option Reply) (r : Reply) → Includes mine (mine_of (parts_of old))
+    → (is_task r ≡ true → Includes mine (names_of_job (done_by old.ledger.databases j))) → StartsDrawn old new before after id j why r → Includes mine (mine_of (parts_of new))
+starts_named mine old new before after id j (Some why) r all its d = named_unmoved mine old new all d.1
+starts_named mine old new before after id j None (reply.Task n k) all its d =
+    named_tasks mine old new all d.0.only (old.tasks.items ++ slot n j ∷ []) d.0.tasks.3
+    (slot_more_mine mine old.ledger.databases old.tasks.items (slot n j) (tasks_were mine old new all) (its refl))
+starts_named mine old new before after id j None reply.NamesFault all its d = named_unmoved mine old new all d.0
+starts_named mine old new before after id j None reply.NoMemory all its d = named_unmoved mine old new all d.0
+starts_named mine old new before after id j None _ all its d = absurd d
+
 pub starts_ask : {D : Type 0} {g : _} (told : DiskTold) (shown : D → DiskShown) (store : StoreTold) (shows : StoreShown) (before after : NamesShown) (clock : ClockShown) (old new : Client D g)
     (kind : m.Kind) (make : Id16 → Job) (q : Ask) (r : Reply) → stepped_task q ≡ None
     → StartsPublication shown (λ id s u t. AsksQuietly s u q id r t) old new before after (start_reason (parts_of old) kind) make r
+    → ((id : Id16) → Includes (id ∷ []) (names_of_job (done_by old.ledger.databases (make id))))
     → AsksOver told shown store shows shows before after clock clock old new q r
-starts_ask told shown store shows before after clock old new kind make q r steps start =
+starts_ask told shown store shows before after clock old new kind make q r steps start its =
     let d = drew old new before after clock make start.id (start_reason (parts_of old) kind) (start_is_reason (parts_of old) kind) r start.starts in
     record {
       name = start.id;
@@ -207,7 +225,10 @@ starts_ask told shown store shows before after clock old new kind make q r steps
             let fresh : IsFresh r shows.log start.id =
             fresh_if r shows.log start.id (λ is. unused.1 start.id (subst (λ (ids : List Id16). has_id start.id ids ≡ true) (sym (d.named is)) (has_id-first start.id []))) in
             let x = start.steps moment shows.log f stands fresh in
+            let drawn : is_task r ≡ true → Includes mine (names_of_job (done_by old.ledger.databases (make start.id))) = λ is i has.
+            draws i (subst (λ (ids : List Id16). has_id i ids ≡ true) (sym (d.named is)) (its start.id i has)) in
             quiet_request (AsksAs start.id q) (IsEvent before after clock clock r) shown store mine shows old new moment f f r stands.sound x.stands
+            (starts_named mine old new before after start.id (make start.id) (start_reason (parts_of old) kind) r all drawn start.starts) (λ flies. flies)
             (λ is o. quiet_ask start.id q (client_side moment shows.log old f) (client_up shows.log old) o r (client_side moment shows.log new f) steps (x.goes.event (d.event is)));
       };
       named = λ e. d.named (right_of (publishes q) (is_task r) e);
@@ -221,5 +242,5 @@ pub as_asked : {D : Type 0} {g : _} {told : DiskTold} {shown : D → DiskShown} 
 as_asked {told = told} {shown = shown} {store = store} {before = before} {after = after} {names = names} {later_names = later_names} {clock = clock} {later_clock = later_clock} {old = old} {new = new} {r = r} q x is asks =
     subst (λ (y : Ask). AsksOver told shown store before after names later_names clock later_clock old new y r) (sym is) asks
 
-pub same_as : {D : Type 0} {g : _} (old new : Client D g) (q x : Ask) → q ≡ x → new.id ≡ old.id → new.taken ≡ taken_with x old.taken → SameWith q old new
-same_as old new q x is id taken = record { id = id; taken = taken ∙ ap (λ (y : Ask). taken_with y old.taken) (sym is) }
+pub same_as : {D : Type 0} {g : _} (old new : Client D g) (q x : Ask) → q ≡ x → new.id ≡ old.id → new.taken ≡ taken_with x old.taken → new.txns.slots ≡ old.txns.slots → SameWith q old new
+same_as old new q x is id taken slots = record { id = id; taken = taken ∙ ap (λ (y : Ask). taken_with y old.taken) (sym is); slots = slots }

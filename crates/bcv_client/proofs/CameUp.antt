@@ -1,5 +1,5 @@
 -- A client that came up has nothing but what its log says, is in form, and stands over each log that its disk's log fits.
-use Rattle.std.proofs.Common.{◌≡◌, ◌∙◌, ℕ, Bool, true, false, List, [], ◌∷◌, map, Option, None, inl, inr, is_some, refl, sym, ap, subst, arith}
+use Rattle.std.proofs.Common.{◌≡◌, ◌∙◌, ◌+◌, ℕ, Bool, true, false, List, [], ◌∷◌, map, Option, None, inl, inr, is_some, refl, sym, ap, subst, arith}
 use Rattle.std.specs.List.{AllByRecursion}
 use Rattle.bcv_base.specs.declared.id.Id16.{Id16}
 use Rattle.bcv_base.specs.declared.log.Entry.{Entry}
@@ -29,9 +29,8 @@ use Rattle.bcv_model.specs.declared.kept.Local.{Local}
 use Rattle.bcv_model.specs.declared.note.Note.TheVariants as note
 use Rattle.bcv_model.specs.declared.reply.Reply.TheVariants as reply
 use Rattle.bcv_model.specs.Notes.{after_note, nothing_kept}
-use Rattle.bcv_risen.specs.DownLaws.{CrashLeavesDown}
 use Rattle.bcv_risen.specs.Rises.{IsNamed, IsUp}
-use Rattle.bcv_risen.specs.RisenSides.{IsUpAgain, IsUpFirst, RisenAgain, RisenFirst, RisesAgain, RisesFirst, new_free, side_down}
+use Rattle.bcv_risen.specs.RisenSides.{IsDown, IsUpAgain, IsUpFirst, RisenAgain, RisenFirst, RisesAgain, RisesFirst, new_free, side_down}
 use Rattle.bcv_risen.specs.SeenBases.{first_block}
 use Rattle.bcv_risen.specs.declared.risen.RiseFault.TheVariants as fault
 use Rattle.bcv_slots.specs.declared.Slot.{Slot}
@@ -45,6 +44,7 @@ use Rattle.bcv_client.specs.declared.client.Client.{Client}
 use Rattle.bcv_client.specs.declared.job.Job.{Job}
 use Rattle.bcv_client.specs.declared.rising.Up.{Up}
 use Rattle.bcv_client.specs.declared.rising.Up.TheVariants as up
+use Rattle.bcv_client.proofs.LeftFits.{left_is_down, still_left}
 
 -- ---- the block size
 
@@ -119,19 +119,30 @@ module _ {D : Type 0} {g : _} (shown : D → DiskShown) (slots : ℕ) (c : Clien
   }
 
   is_back : (log : List Entry) (id : Id16) (k : Kept) (f : Free) → IsSoundLog log → f.slots ≡ slots → IsUpAgain shown log id k f c.ledger c.id c.seen → IsBack shown log id k f c
-  is_back log id k f sound same again = record {
-    same = again.same;
-    left = again.left;
-    stands = stands_empty log (risen_free f) sound again.fits again.journaled same;
-    comes_up = λ moment.
-        subst (λ (q : Parts). ComesUp (side_down moment (history_of log) k f) (reply.UpAgain (table_of c.ledger.databases) (is_some c.ledger.databases.kept.pending)) (side_of moment (history_of log) q (risen_free f)))
-        (sym empty.parts) (again.comes_up moment);
-  }
+  is_back log id k f sound same again =
+      let stands : StandsOver shown c log (risen_free f) = stands_empty log (risen_free f) sound again.fits again.journaled same in
+      record {
+        same = again.same;
+        left = again.left;
+        stands = stands;
+        leaves = still_left shown c log (risen_free f) stands refl;
+        comes_up = λ moment.
+            subst (λ (q : Parts). ComesUp (side_down moment (history_of log) k f) (reply.UpAgain (table_of c.ledger.databases) (is_some c.ledger.databases.kept.pending)) (side_of moment (history_of log) q (risen_free f)))
+            (sym empty.parts) (again.comes_up moment);
+      }
+
+  -- with so many bytes noted that the log is within them
+  abbrev new_noted : ℕ → Free
+  new_noted most = record { slots = slots; fused = false; failing = false; noted = most + 44; flight = None }
+
+  new_stands : (most : ℕ) → IsUpFirst shown most c.ledger c.id c.seen → (log : List Entry) → IsSoundLog log → StandsOver shown c log (new_noted most)
+  new_stands most first log sound = stands_empty log (new_noted most) sound (first.fits log) (first.journaled (new_noted most) refl (omega arith)) refl
 
   newly_up : (most : ℕ) → IsUpFirst shown most c.ledger c.id c.seen → IsNewlyUp shown slots most c
   newly_up most first = record {
     kept = first.kept;
     stands = λ log f sound same still within. stands_empty log f sound (first.fits log) (first.journaled f still within) same;
+    leaves = λ log sound. still_left shown c log (new_noted most) (new_stands most first log sound) refl;
     is_new = λ past. ap (λ (q : Parts). seen_client past q (new_free slots)) empty.parts ∙ first.is_new past slots;
   }
 
@@ -159,8 +170,8 @@ module _ {D : Type 0} {g : _} (told : DiskTold) (shown : D → DiskShown) (disk 
 
 -- ---- down
 
-pub leaves_down : {D : Type 0} {g : _} (shown : D → DiskShown) (c : Client D g) (disk : D) → disk ≡ log_disk c.ledger.log → CrashLeavesDown shown c.ledger.log disk → LeavesDown shown c disk
-leaves_down shown c disk same law = λ log f stands still. record {
-  is_down = law log (entries_of c) (parts_of c) f stands.fits stands.journaled still (λ image may. subst (λ (d : _). (shown d).may_leave image) same may);
+pub leaves_down : {D : Type 0} {g : _} (shown : D → DiskShown) (c : Client D g) (disk : D) → disk ≡ log_disk c.ledger.log → LeavesDown shown c disk
+leaves_down shown c disk same = λ log f stands fits. record {
+  is_down = subst (λ (d : _). IsDown (shown d) log c.id c.ledger.databases.kept f) (sym same) (left_is_down shown c log f stands fits);
   crashes = λ moment. refl;
 }

@@ -6,8 +6,8 @@ use Rattle.bcv_base.specs.declared.log.Entry.{Entry}
 use Rattle.bcv_base.specs.declared.seen.Seen.{Seen}
 use Rattle.bcv_base.specs.History.{Item, history_of}
 use Rattle.bcv_base.specs.Keyed.{keyed, without_keyed}
-use Rattle.bcv_clientlaws.specs.OtherParts.{KeepsTaken, LeavesCommits}
-use Rattle.bcv_clientlaws.proofs.OtherParts.{kept_fits}
+use Rattle.bcv_clientlaws.specs.OtherParts.{Includes, KeepsTaken, LeavesCommits}
+use Rattle.bcv_clientlaws.proofs.OtherParts.{includes_all, kept_fits}
 use Rattle.bcv_clientlaws.proofs.Taken.{notes_keep_taken}
 use Rattle.bcv_clientlog.specs.LogParts.{is_shut}
 use Rattle.bcv_clientstate.specs.BaseLaws.{FitsLocal}
@@ -28,7 +28,7 @@ use Rattle.bcv_ledger.specs.FitsLedger.{FitsLedger}
 use Rattle.bcv_ledger.specs.LedgerNotes.{parts_in}
 use Rattle.bcv_ledger.specs.LocalCalls.{CommitNotes, CommitSteps, CommitsFrom, HasLedger, LedgerCommits, LocalSteps, fault_of}
 use Rattle.bcv_ledger.specs.LocalCalls as ledger
-use Rattle.bcv_ledger.specs.NoteEnds.{NoteEnds}
+use Rattle.bcv_ledger.specs.NoteEnds.{NoteEnds, ShutAfter}
 use Rattle.bcv_ledger.specs.declared.ledger.Ledger.{Ledger}
 use Rattle.bcv_ledger.proofs.FitsLedger.{commit_keeps_fit}
 use Rattle.bcv_ledger.proofs.LocalLaws.{commit_may_stand}
@@ -54,7 +54,10 @@ use Rattle.bcv_client.specs.declared.job.Job.{Job}
 use Rattle.bcv_client.proofs.CommitForm.{commit_form}
 use Rattle.bcv_client.proofs.FirstReasons.{open_to_commit, same_views, small_commit, there_is}
 use Rattle.bcv_client.proofs.LedgerParts.{fits_closed, fits_same, ledger_alone, ledger_same, stands_by}
+use Rattle.bcv_client.specs.CallNames.{flight_names}
+use Rattle.bcv_client.proofs.Flights.{commit_flies}
 use Rattle.bcv_client.proofs.MachineSlots.{commits_keep_slots}
+use Rattle.bcv_client.proofs.MyNames.{none_flies}
 use Rattle.bcv_client.proofs.SetViews.{keeps_slots, keeps_txns}
 
 -- ---- the ledger
@@ -95,7 +98,7 @@ module _ {D : Type 0} {g : _} (told : DiskTold) (shown : D → DiskShown) (old n
       (keeps_slots old.ledger.databases.sets new.ledger.databases.sets views old.tasks.items)
 
   -- the note may stand
-  may_note : (log : List Entry) (x : Note) → IsSoundLog log → Fits p (entries_of old) log → commit_reason_in (parts_in old.ledger) db (writes_of c) ≡ None
+  pub may_note : (log : List Entry) (x : Note) → IsSoundLog log → Fits p (entries_of old) log → commit_reason_in (parts_in old.ledger) db (writes_of c) ≡ None
       → note_over db c (keyed kept_name db p.kept.locals) (keyed known_name db p.known) ≡ Some x
       → (y : m.Note) × MayNote (history_of log) p x y
   may_note log x sound fits free is =
@@ -132,6 +135,14 @@ module _ {D : Type 0} {g : _} (told : DiskTold) (shown : D → DiskShown) (old n
   armed_is reply.DiskFault f armed = armed
   armed_is _ f armed = tt
 
+  -- no intent is in flight that was not
+  flies_after : (r : Reply) (moment : ℕ) (log : List Entry) (f free : Free) → ShutAfter (fault_of r) (is_shut new.ledger.log) → Journaled shown new.ledger.log new.ledger.databases.kept free
+      → machine.Commits (side_of moment (history_of log) p f) (seen_up (history_of log) p) db (writes_of c) r (side_of moment (history_of log) q free)
+      → Includes (flight_names f.flight) (flight_names free.flight)
+  flies_after reply.DiskFault moment log f free shut j goes =
+      commit_flies (flight_names f.flight) (side_of moment (history_of log) p f) (seen_up (history_of log) p) db (writes_of c) (side_of moment (history_of log) q free) goes (includes_all (flight_names f.flight))
+  flies_after _ moment log f free shut j goes = none_flies (flight_names f.flight) shown new.ledger.log new.ledger.databases.kept free j shut
+
   -- a refused commit
   refused : (why r : Reply) (moment : ℕ) (log : List Entry) (f : Free) → commit_reason_in (parts_in old.ledger) db (writes_of c) ≡ Some why
       → CommitsFrom told shown old.ledger new.ledger db c r (Some why) → StandsOver shown old log f → NotesOver shown (Goes r) old new moment log f r
@@ -145,6 +156,7 @@ module _ {D : Type 0} {g : _} (told : DiskTold) (shown : D → DiskShown) (old n
         stands =
             stands_by old new only shown log f f (parts_after views) stands (fits_same (parts_in new.ledger) p (entries_of old) log kept knows stands.fits)
             (subst (λ (l : _). Journaled shown l new.ledger.databases.kept f) (sym from.1.log) (subst (λ (k : Kept). Journaled shown old.ledger.log k f) (sym kept) stands.journaled)) refl;
+        flight = includes_all (flight_names f.flight);
         goes = record {
           event = λ some.
               subst (λ (x : Parts). Goes r (client_side moment log old f) (client_up log old) (side_of moment (history_of log) x f)) (sym same)
@@ -164,6 +176,7 @@ module _ {D : Type 0} {g : _} (told : DiskTold) (shown : D → DiskShown) (old n
       record {
         free = f;
         stands = stands_by old new only shown log f f (parts_after from.ends.views) stands fits (from.ends.goes tells may.1.may f stands.journaled may.0 may.1.is) refl;
+        flight = includes_all (flight_names f.flight);
         goes = record { event = λ some. absurd (some tt); still = λ none. ap (λ (x : Parts). side_of moment (history_of log) x f) same };
       }
   noted reply.NamesFault moment log f tells free from steps stands armed = absurd from.ends.answers
@@ -177,6 +190,7 @@ module _ {D : Type 0} {g : _} (told : DiskTold) (shown : D → DiskShown) (old n
       record {
         free = step.free;
         stands = stands_by old new only shown log f step.free is stands fits step.journaled slots;
+        flight = flies_after r moment log f step.free from.ends.shut step.journaled step.goes;
         goes = record {
           event = λ some. subst (λ (x : Parts). Goes r (client_side moment log old f) (client_up log old) (side_of moment (history_of log) x step.free)) (sym is) step.goes;
           still = λ none. absurd none;

@@ -52,6 +52,7 @@ use Rattle.bcv_client.specs.declared.job.Access.{Access}
 use Rattle.bcv_client.specs.declared.job.Job.TheVariants as job
 use Rattle.bcv_client.proofs.FetchRequests.{Requested, requested, steps_under}
 use Rattle.bcv_client.proofs.PagesFound.{is_set_of}
+use Rattle.bcv_client.proofs.MyNames.{named_same}
 use Rattle.bcv_client.proofs.PollOver.{none_added}
 use Rattle.bcv_client.proofs.ReadsSaw.{saw_grown}
 use Rattle.bcv_client.proofs.TxnCalls.{comes_stay, differ_open, holds_stay, reads_stay}
@@ -204,6 +205,8 @@ module _ {D : Type 0} {g : _} (told : DiskTold) (shown : D → DiskShown) (store
         growth = s.growth;
         free = f;
         stands = stands_other old new only shown after.log f now slots (fit tells mine stands.sound grew sets (are_fit shown old moment before.log f stands));
+        names = named_same mine old new all only.reading.id (ap (λ (l : _). l.databases.kept.pending) only.reading.ledger) (ap (λ (ts : _). ts.items) only.tasks);
+        flight = λ flies. flies;
         event = λ reply_is.
             let memory : r ≢ stepped.NoMemory = λ none. reply_is (ap stepped_reply none) in
             let q : Requested store before after r = requested store before after r says memory (seen_access a) h n p tells mine stands.sound grew old.txns new.txns steps in

@@ -50,3 +50,14 @@ pub mod PutSteps
 pub mod TxnBegins
 pub mod CameUp
 pub mod NewUploads
+pub mod LeftFits
+pub mod FallsLocal
+pub mod FallsSteps
+pub mod FallsCalls
+pub mod MyNames
+pub mod Flights
+pub mod JobNames
+pub mod AskNames
+pub mod SlotsKept
+pub mod CallFaults
+pub mod WorkFlights

@@ -1,5 +1,5 @@
 -- A look whose page is copied, as the machine's.
-use Rattle.std.proofs.Common.{◌≡◌, ◌≢◌, ◌∙◌, ℕ, List, Option, Some, None, option_map, unwrap_or, refl, sym, ap, subst}
+use Rattle.std.proofs.Common.{◌≡◌, ◌∙◌, ℕ, List, Option, Some, None, option_map, unwrap_or, refl, sym, ap, subst}
 use Rattle.std.proofs.lemmas.Option.{same_Some}
 use Rattle.bcv_base.specs.declared.log.Entry.{Entry}
 use Rattle.bcv_base.specs.History.{history_of}
@@ -26,13 +26,6 @@ use Rattle.bcv_client.specs.declared.client.Client.{Client}
 -- the size of the pages of a transaction that is open
 abbrev pub size_opened : Option (ℕ × ℕ × ℕ) → ℕ
 size_opened x = unwrap_or (option_map (λ (y : ℕ × ℕ × ℕ). y.1) x) 0
-
-pub no_names_fault : (size : ℕ) (l : Look) (r : Reply) → RepliesLook size l r → r ≢ reply.NamesFault
-no_names_fault size look.BadPage r says is = absurd (let e : reply.BadPage ≡ reply.NamesFault = sym says ∙ is in cc)
-no_names_fault size look.NoTxn r says is = absurd (let e : reply.NoTxn ≡ reply.NamesFault = sym says ∙ is in cc)
-no_names_fault size look.NotHeld r says is = absurd (let e : reply.NotHeld ≡ reply.NamesFault = sym says ∙ is in cc)
-no_names_fault size (look.Page bytes) r says is = subst (RepliesLook size (look.Page bytes)) is says
-no_names_fault size look.Zeros r says is = subst (RepliesLook size look.Zeros) is says
 
 module _ {D : Type 0} {g : _} (shown : D → DiskShown) (c : Client D g) (n p : ℕ) (moment : ℕ) (log : List Entry) (f : Free) where
   abbrev side : m.Side

@@ -34,6 +34,7 @@ use Rattle.bcv_slots.specs.Numbered.{has_number, item_at, numbers_of, other_slot
 use Rattle.bcv_slots.proofs.NumbersDiffer.{others_have_none}
 use Rattle.bcv_store.specs.StoreShown.{StoreShown, StoreTold}
 use Rattle.bcv_tasks.specs.declared.publish_task.PublishTask.{PublishTask}
+use Rattle.bcv_client.specs.CallNames.{flight_names}
 use Rattle.bcv_client.specs.ClientParts.{entries_of, parts_of}
 use Rattle.bcv_client.specs.Events.{SawItsReads, StandsOver, client_side, client_up}
 use Rattle.bcv_client.specs.NewTasks.{is_busy}
@@ -46,7 +47,8 @@ use Rattle.bcv_client.specs.declared.client.Client.{Client}
 use Rattle.bcv_client.specs.declared.job.Job.{Job}
 use Rattle.bcv_client.specs.declared.job.Job.TheVariants as job
 use Rattle.bcv_client.proofs.PollOver.{none_added}
-use Rattle.bcv_client.proofs.TasksTaken.{behind, ended_steps, few_filtered, found_has, part_at, parts_without, stands_without, step_of_number}
+use Rattle.bcv_client.proofs.TasksTaken.{behind, ended_steps, few_filtered, found_has, part_at, parts_without, stands_without, step_of_number, without_mine}
+use Rattle.bcv_client.proofs.MyNames.{named_unmoved}
 
 -- ---- the place of a task that was taken out
 
@@ -198,7 +200,7 @@ module _ {D : Type 0} {g : _} (told : DiskTold) (shown : D → DiskShown) (store
     reads = tt;
     over = λ tells disk moment mine f stands all draws unused at grew armed.
         let over = ended_steps shown store before after old mid new n j r out opens told ends tells disk moment mine f stands all grew armed in
-        record { growth = over.growth; free = over.free; stands = over.stands; event = λ is. over.event is.memory };
+        record { growth = over.growth; free = over.free; stands = over.stands; names = over.names; flight = over.flight; event = λ is. over.event is.memory };
   }
 
 -- ---- no request was made
@@ -219,12 +221,15 @@ grew_none alone mine log sound = record {
 -- what the machine says under every outcome is a request that was not made
 pub quiet_request : {D : Type 0} {g : _} (Goes : m.Side → m.Up → Outcome → Said → Bool → m.Side → Type 0) (IsOne : Type 0) (shown : D → DiskShown) (store : StoreTold) (mine : List Id16) (before : StoreShown)
     (old new : Client D g) (moment : ℕ) (f free : Free) (r : Reply) → IsSoundLog before.log → StandsOver shown new before.log free
+    → Includes mine (mine_of (parts_of new)) → (Includes mine (flight_names f.flight) → Includes mine (flight_names free.flight))
     → (IsOne → (o : Outcome) → Goes (client_side moment before.log old f) (client_up before.log old) o (record { published = None; reply = r }) false (client_side moment before.log new free))
     → RequestOver Goes IsOne shown store mine before before old new moment f r
-quiet_request Goes IsOne shown store mine before old new moment f free r sound stands goes = record {
+quiet_request Goes IsOne shown store mine before old new moment f free r sound stands names flight goes = record {
   growth = grew_none store.alone mine before.log sound;
   free = free;
   stands = stands;
+  names = names;
+  flight = flight;
   event = λ is. record {
     made = false;
     request = outcome.Ok;
@@ -243,8 +248,8 @@ quiet_request Goes IsOne shown store mine before old new moment f free r sound s
 module _ {D : Type 0} {g : _} (told : DiskTold) (shown : D → DiskShown) (store : StoreTold) (before : StoreShown) (names : NamesShown) (clock : ClockShown)
     (old new : Client D g) (n : ℕ) (r : Reply) where
   -- there is no such task, or it has ended
-  pub quiet_steps : StepsQuietly shown old new n r → StepsNumber told shown store before before names names clock clock old new n r
-  quiet_steps steps = record {
+  pub quiet_steps : Includes (mine_of (parts_of old)) (mine_of (parts_of new)) → StepsQuietly shown old new n r → StepsNumber told shown store before before names names clock clock old new n r
+  quiet_steps own steps = record {
     ids = [];
     drawn = adds_none names.drawn;
     few = omega arith;
@@ -252,7 +257,7 @@ module _ {D : Type 0} {g : _} (told : DiskTold) (shown : D → DiskShown) (store
     reads = tt;
     over = λ tells disk moment mine f stands all draws unused at grew armed.
         let both = steps moment before.log f stands in
-        quiet_request (StepsOf n) (IsEvent names names clock clock r) shown store mine before old new moment f f r stands.sound both.0 (λ is o. both.1 o false);
+        quiet_request (StepsOf n) (IsEvent names names clock clock r) shown store mine before old new moment f f r stands.sound both.0 (λ i has. all i (own i has)) (λ flies. flies) (λ is o. both.1 o false);
   }
 
 -- ---- what was taken out
@@ -263,6 +268,19 @@ taken_only old mid n (Ok j) takes = takes.0.only
 taken_only old mid n (Err reply.NoTask) takes = takes.0.only
 taken_only old mid n (Err reply.Closed) takes = takes.out.only
 taken_only old mid n (Err _) takes = absurd takes
+
+-- and it has no other names
+pub taken_names : {D : Type 0} {g : _} (old mid : Client D g) (n : ℕ) (x : Result Job Reply) → TakesTask old mid n x → Includes (mine_of (parts_of old)) (mine_of (parts_of mid))
+taken_names {D = D} {g = g} old mid n x takes = by x takes
+  where
+    out : (j : Job) → TaskOut old mid n j → Includes (mine_of (parts_of old)) (mine_of (parts_of mid))
+    out j o = subst (λ (p : parts.Parts). Includes (mine_of (parts_of old)) (mine_of p)) (sym (parts_without old mid n j o)) (without_mine n (parts_of old))
+
+    by : (y : Result Job Reply) → TakesTask old mid n y → Includes (mine_of (parts_of old)) (mine_of (parts_of mid))
+    by (Ok j) t = out j t.0
+    by (Err reply.NoTask) t = named_unmoved (mine_of (parts_of old)) old mid (includes_all (mine_of (parts_of old))) t.0
+    by (Err reply.Closed) t = out t.job t.out
+    by (Err _) t = absurd t
 
 -- the journal was open as it is
 pub open_still : {D : Type 0} {g : _} (old mid : Client D g) (j : Job) → OnlyTasks old mid → CanStep mid j → is_busy j ≡ true → is_shut old.ledger.log ≡ false

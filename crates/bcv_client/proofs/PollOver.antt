@@ -39,6 +39,7 @@ use Rattle.bcv_client.specs.TaskParts.{done_by, entries_in, no_set, task_part, t
 use Rattle.bcv_client.specs.declared.client.Client.{Client}
 use Rattle.bcv_client.specs.declared.job.Job.{Job}
 use Rattle.bcv_client.specs.declared.job.Job.TheVariants as job
+use Rattle.bcv_client.proofs.MyNames.{named_same}
 use Rattle.bcv_client.proofs.ReadsSaw.{SawAll, saw_grown, saw_same}
 use Rattle.bcv_client.proofs.SameParts.{parts_by}
 
@@ -103,6 +104,8 @@ module _ {D : Type 0} {g : _} (told : DiskTold) (shown : D → DiskShown) (store
         growth = says.growth;
         free = f;
         stands = stands_after after.log f before.log stands says.growth.sound says.fits (saw_grown store.alone mine before.log after.log says.growth old.tasks.items stands.saw);
+        names = named_same mine old new all only.id (ap (λ (k : Kept). k.pending) polls.kept) (ap (λ (ts : Vec (Slot Job)). ts.items) only.tasks);
+        flight = λ flies. flies;
         event = λ memory. record {
           made = true;
           request = says.request;

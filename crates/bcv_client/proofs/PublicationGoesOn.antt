@@ -8,12 +8,14 @@ use Rattle.bcv_base.specs.History.{history_of}
 use Rattle.bcv_base.specs.Image.{Writes}
 use Rattle.bcv_base.specs.Moments.{ClockShown}
 use Rattle.bcv_clientlaws.specs.Different.{AtMostOne}
+use Rattle.bcv_clientlaws.specs.OtherParts.{Includes}
 use Rattle.bcv_clientlaws.specs.TaskLists.{with_task, with_tasks}
 use Rattle.bcv_clientlaws.proofs.Lists.{map_append}
 use Rattle.bcv_clientlaws.proofs.OtherParts.{task_fits_last}
 use Rattle.bcv_clientlaws.proofs.TaskLists.{task_goes_on}
 use Rattle.bcv_clientstate.specs.PartRefusals.{runs_publication}
 use Rattle.bcv_clientstate.specs.Parts as parts
+use Rattle.bcv_clientstate.specs.Parts.{mine_of}
 use Rattle.bcv_clientstate.specs.SeenClient.{Free, seen_job, side_of}
 use Rattle.bcv_databases.specs.Catalog.{Catalog}
 use Rattle.bcv_disk.specs.DiskShown.{DiskShown, DiskTold}
@@ -39,6 +41,8 @@ use Rattle.bcv_client.specs.TaskTaken.{GivesBack}
 use Rattle.bcv_client.specs.declared.client.Client.{Client}
 use Rattle.bcv_client.specs.declared.job.Job.{Job}
 use Rattle.bcv_client.specs.declared.job.Job.TheVariants as job
+use Rattle.bcv_client.proofs.JobNames.{job_names_are_mine}
+use Rattle.bcv_client.proofs.MyNames.{with_task_mine}
 use Rattle.bcv_client.proofs.ReadsSaw.{saw_more, saw_same}
 use Rattle.bcv_client.proofs.SameParts.{stands_with, tasks_alone}
 use Rattle.bcv_client.proofs.TasksPut.{slot}
@@ -95,6 +99,12 @@ module _ {D : Type 0} {g : _} (shown : D → DiskShown) (mid new : Client D g) (
       (task_fits_last mine log (parts_of mid) (entries_of mid) part stands.fits fits.fits fits.staged)
       (saw_same (history_of log) (mid.tasks.items ++ slot n (job.Publish set taken u) ∷ []) new.tasks.items back.tasks (saw_more (history_of log) mid.tasks.items (slot n (job.Publish set taken u)) stands.saw fits.saw)) stands
 
+  -- the names of a task that fits are mine
+  names_back : (mine : List Id16) (log : List Entry) → TaskFitsLog mine mid.id c log n set taken u → Includes mine (mine_of (parts_of mid)) → Includes mine (mine_of (parts_of new))
+  names_back mine log fits all =
+      subst (λ (p : parts.Parts). Includes mine (mine_of p)) (sym parts_back)
+      (with_task_mine mine (parts_of mid) part all (job_names_are_mine mine mid.id c.kept log part.job fits.fits))
+
   side_back : (moment : ℕ) (log : List Entry) (f : Free) → client_side moment log new f ≡ give_back n (Some (publication_of c set u)) (client_side moment log mid f)
   side_back moment log f =
       ap (λ (p : parts.Parts). side_of moment (history_of log) p f) parts_back
@@ -113,16 +123,21 @@ module _ {D : Type 0} {g : _} (told : DiskTold) (shown : D → DiskShown) (store
   q = publication_of old.ledger.databases set t
 
   -- the machine's publication goes on, and is given back, or has ended
-  record Back (r : Reply) (log : List Entry) (f : Free) : Type 0 where
+  record Back (mine : List Id16) (r : Reply) (log : List Entry) (f : Free) : Type 0 where
     stands : StandsOver shown new log f
+    owns : Includes mine (mine_of (parts_of mid)) → Includes mine (mine_of (parts_of new))
     side : (moment : ℕ) → client_side moment log new f ≡ give_back n (publication_left mid.ledger.databases set r u) (client_side moment log mid f)
 
   goes_back : (mine : List Id16) (r : Reply) (log : List Entry) (f : Free) → BackWhere mid new n set taken r u → StandsOver shown mid log f
-      → GoesOnOver mine mid.id mid.ledger.databases log n set taken r u → Back r log f
-  goes_back mine (reply.Working left) log f back stands on =
-      record { stands = stands_back shown mid new n set taken u back mine log f stands on; side = λ moment. side_back shown mid new n set taken u back moment log f }
+      → GoesOnOver mine mid.id mid.ledger.databases log n set taken r u → Back mine r log f
+  goes_back mine (reply.Working left) log f back stands on = record {
+    stands = stands_back shown mid new n set taken u back mine log f stands on;
+    owns = names_back shown mid new n set taken u back mine log on;
+    side = λ moment. side_back shown mid new n set taken u back moment log f;
+  }
   goes_back mine _ log f back stands on = record {
     stands = subst (λ (c : Client D g). StandsOver shown c log f) (sym back) stands;
+    owns = λ all. subst (λ (c : Client D g). Includes mine (mine_of (parts_of c))) (sym back) all;
     side = λ moment. ap (λ (c : Client D g). client_side moment log c f) back;
   }
 
@@ -138,12 +153,14 @@ module _ {D : Type 0} {g : _} (told : DiskTold) (shown : D → DiskShown) (store
     over = λ tells disk moment mine f stands all draws unused at grew armed.
         let x = steps.over tells disk n moment mine f stands all draws unused.0 at grew armed in
         let o = x.over in
-        let b : Back r after.log o.free = goes_back mine r after.log o.free back o.stands x.on in
+        let b : Back mine r after.log o.free = goes_back mine r after.log o.free back o.stands x.on in
         let log : List Entry = before.log ++ o.growth.others in
         record {
           growth = o.growth;
           free = o.free;
           stands = b.stands;
+          names = b.owns o.names;
+          flight = o.flight;
           event = λ is.
               let e = o.event is in
               record {

@@ -1,5 +1,5 @@
 -- The put of a task over a client is one request of the machine.
-use Rattle.std.proofs.Common.{◌≡◌, ◌∙◌, ◌≤◌, ◌<◌, ◌^◌, ℕ, Bool, true, false, List, ◌++◌, map, Option, Some, None, IfSome, MatchOption, unwrap_or, refl, sym, ap, subst, arith}
+use Rattle.std.proofs.Common.{◌≡◌, ◌∙◌, ◌≤◌, ◌<◌, ◌^◌, ℕ, Bool, true, false, List, [], ◌++◌, inl, inr, map, Option, Some, None, IfSome, MatchOption, unwrap_or, refl, sym, ap, subst, arith}
 use Rattle.std.specs.List.{AllByRecursion, list_any}
 use Rattle.bcv_base.specs.declared.id.Id16.{Id16}
 use Rattle.bcv_base.specs.declared.manifest.Manifest.{Manifest}
@@ -42,13 +42,13 @@ use Rattle.bcv_publication.specs.TaskSides.{MayStep, job_of, seen_task}
 use Rattle.bcv_publish.specs.ManifestRead.{is_other}
 use Rattle.bcv_publisher.specs.PollStep.{seen_with}
 use Rattle.bcv_publisher.specs.PutNotes.{FitsAfter, FitsOn, PublishedIsKept}
-use Rattle.bcv_publisher.specs.PutStep.{GoesOn, MayPutManifest, PutSays, PutStepLeaves, rest_of}
+use Rattle.bcv_publisher.specs.PutStep.{GoesOn, MayPutManifest, MayWait, PutSays, PutStepLeaves, kept_waiting, rest_of}
 use Rattle.bcv_publisher.specs.WorkStep.{IsEvent}
 use Rattle.bcv_slots.specs.declared.Slot.{Slot}
 use Rattle.bcv_store.specs.StoreShown.{StoreShown, StoreTold}
 use Rattle.bcv_tasks.specs.declared.publish_task.PublishTask.{PublishTask}
 use Rattle.bcv_tasks.specs.declared.publish_task.PublishTask.TheVariants as task
-use Rattle.bcv_tasks.specs.State.{is_ready, latest_of, pending_of, refused_of, writer_of}
+use Rattle.bcv_tasks.specs.State.{id_of, is_ready, latest_of, pending_of, refused_of, writer_of}
 use Rattle.bcv_tasks.specs.TaskPut.{with_refused}
 use Rattle.bcv_transaction.specs.MachineCalls.{open_part}
 use Rattle.bcv_transaction.specs.Open.{Open}
@@ -65,6 +65,8 @@ use Rattle.bcv_client.specs.TaskParts.{entries_in, no_set, sets_in, task_part}
 use Rattle.bcv_client.specs.declared.client.Client.{Client}
 use Rattle.bcv_client.specs.declared.job.Job.{Job}
 use Rattle.bcv_client.proofs.BusyTasks.{busy_jobs}
+use Rattle.bcv_client.proofs.Flights.{step_flies}
+use Rattle.bcv_client.proofs.MyNames.{id_mine, named_by, none_flies, none_mine, one_mine, pending_by, pending_was, publication_mine, task_is_mine, tasks_by, tasks_were, without_task_mine}
 use Rattle.bcv_client.proofs.PutForm.{txns_kept}
 use Rattle.bcv_client.proofs.ResolveOver.{armed}
 use Rattle.bcv_client.proofs.Reverts.{SameLedger, same_ledger}
@@ -243,6 +245,46 @@ module _ {D : Type 0} {g : _} (told : DiskTold) (shown : D → DiskShown) (store
       }
       on_after _ h trims on = tt
 
+      -- ---- names
+
+      my_own : Includes mine (mine_of p)
+      my_own = without_task_mine mine p (publishing_part c n set taken t) all
+
+      task_names : Includes mine (names_of_job (job_of view t))
+      task_names = task_is_mine mine p (publishing_part c n set taken t) all
+
+      -- what is pending is the task's, or what was before
+      pending_put : (y : Reply) → PutStepLeaves old.ledger mid old.seen (pending_of taken t) t moment y u → Includes mine (names_of_pending d.kept.pending)
+      pending_put y leaves = by y leaves
+        where
+          from : (w : Option PendingPub) → mid.databases.kept.pending ≡ w → Includes mine (names_of_pending w) → Includes mine (names_of_pending d.kept.pending)
+          from w is names = pending_by mine old new my_own w (ap (λ (k : Kept). k.pending) same.kept ∙ is) names
+
+          waits : mid.databases.kept ≡ kept_waiting c.kept (pending_of taken t) → Includes mine (names_of_pending d.kept.pending)
+          waits is = from (Some (pending_of taken t)) (ap (λ (k : Kept). k.pending) is) (one_mine mine (id_of t) [] (id_mine mine view t own.running task_names) (none_mine mine))
+
+          none : mid.databases.kept.pending ≡ None → Includes mine (names_of_pending d.kept.pending)
+          none is = from None is (none_mine mine)
+
+          still : mid.databases.kept ≡ c.kept → Includes mine (names_of_pending d.kept.pending)
+          still is = from c.kept.pending (ap (λ (k : Kept). k.pending) is) (pending_was mine old new my_own)
+
+          may : MayWait old.ledger mid (pending_of taken t) → Includes mine (names_of_pending d.kept.pending)
+          may (inl keeps) = still keeps.0
+          may (inr keeps) = waits keeps.0
+
+          by : (y : Reply) → PutStepLeaves old.ledger mid old.seen (pending_of taken t) t moment y u → Includes mine (names_of_pending d.kept.pending)
+          by (reply.Working k) h = waits h.keeps.0
+          by (reply.Done k) h = none (ap (λ (k : Kept). k.pending) h.keeps.0)
+          by (reply.Cleaned deleted more) h = none (ap (λ (k : Kept). k.pending) h.keeps.0)
+          by (reply.Contended numbers) h = none (ap (λ (k : Kept). k.pending) h.keeps.0)
+          by reply.Exists h = none (ap (λ (k : Kept). k.pending) h.keeps.0)
+          by (reply.Unknown id) h = waits h.2.0
+          by reply.JournalFull h = still h.1.0
+          by reply.DiskFault h = may h
+          by reply.NoMemory h = may h
+          by _ h = absurd h
+
       -- ---- the request
 
       pub put_over : (names : NamesShown) (clock later_clock : ClockShown) → IsArmed r f
@@ -256,6 +298,13 @@ module _ {D : Type 0} {g : _} (told : DiskTold) (shown : D → DiskShown) (store
               growth = says.growth;
               free = steps.0;
               stands = stands_new steps.0 steps.1 steps.2;
+              names =
+                  named_by mine old new my_own step.only.id (pending_put r step.puts.leaves)
+                  (tasks_by mine old new my_own old.tasks.items (ap (λ x. x.items) step.only.tasks) (tasks_were mine old new my_own));
+              flight =
+                  step_flies mine moment past later p left f steps.0 (publication_of c set t) says.request r (rest_of mid.databases.kept.pending view r u) (is_shut mid.log)
+                  (publication_mine mine c.kept.pending view t task_names) step.puts.shut (λ is_open. none_flies mine shown mid.log mid.databases.kept steps.0 steps.2 is_open)
+                  (λ memory. steps.3 memory says.request (λ made. refl));
               event = λ is. record {
                 made = says.made;
                 request = says.request;

@@ -16,10 +16,12 @@ use Rattle.bcv_disk.specs.DiskShown.{DiskShown, DiskTold}
 use Rattle.bcv_model.specs.declared.kept.PendingPub.{PendingPub}
 use Rattle.bcv_model.specs.declared.reply.Reply.{Reply}
 use Rattle.bcv_model.specs.declared.reply.Reply.TheVariants as reply
+use Rattle.bcv_publisher.specs.NotesFit.{FoldsFit}
 use Rattle.bcv_publisher.specs.PollStep.{IsReadForm}
 use Rattle.bcv_publisher.specs.PutStep.{MayPutManifest, PutStepLeaves}
 use Rattle.bcv_publisher.specs.StepNotes.{LeavesNotes, NotesPublication}
 use Rattle.bcv_publisher.specs.WorkStep.{IsEvent}
+use Rattle.bcv_publisher.proofs.NotesFit.{client_kept}
 use Rattle.bcv_store.specs.StoreShown.{StoreShown, StoreTold}
 use Rattle.bcv_tasks.specs.declared.publish_task.PublishTask.{PublishTask}
 use Rattle.bcv_tasks.specs.declared.publish_task.PublishTask.TheVariants as task
@@ -35,7 +37,7 @@ use Rattle.bcv_client.proofs.PutOver.{may_put, put_over}
 use Rattle.bcv_client.proofs.TaskStands.{counted}
 use Rattle.bcv_client.proofs.PutTasks.{signed_form, signed_id, signed_pending, signed_ready, signed_writer}
 use Rattle.bcv_client.proofs.Reverts.{same_ledger}
-use Rattle.bcv_client.proofs.PutUntimed.{may_fold, may_void, moments_end, noted_end, untimed_form, untimed_over, untimed_read, untimed_stays, void_notes}
+use Rattle.bcv_client.proofs.PutUntimed.{left_end, may_fold, may_void, moments_end, noted_end, untimed_form, untimed_over, untimed_read, untimed_stays, void_notes}
 
 -- ---- no names
 
@@ -68,7 +70,7 @@ module _ {D : Type 0} {g : _} (w : Id16) where
   signed_over One shown store mine before after old new moment f n set taken (task.Cleanup id s) r u h = h
 
 only_puts : {D : Type 0} {g : _} (old new : Client D g) → OnlyPuts old new → OnlyPublishes old new
-only_puts old new only = record { id = only.id; tasks = only.tasks; opened = ap (λ (o : Open). o.txns) only.txns; taken = only.taken }
+only_puts old new only = record { id = only.id; tasks = only.tasks; opened = ap (λ (o : Open). o.txns) only.txns; slots = ap (λ (o : Open). o.slots) only.txns; taken = only.taken }
 
 -- ---- a moment was read
 
@@ -129,6 +131,8 @@ module _ {D : Type 0} {g : _} (told : DiskTold) (shown : D → DiskShown) (store
         (step.notes.any_moment tells end folds);
     may = λ store_tells n mine f stands all honest.
         (step.notes.client store_tells (parts_of old) (entries_of old) n (view_at old.ledger.databases set v) mine (count n mine f stands all) (may n mine f stands all) alone honest).may;
+    left = λ store_tells n mine f stands all honest.
+        (step.notes.client store_tells (parts_of old) (entries_of old) n (view_at old.ledger.databases set v) mine (count n mine f stands all) (may n mine f stands all) alone honest).left;
   }
 
   -- every clause
@@ -181,7 +185,8 @@ module _ {D : Type 0} {g : _} (told : DiskTold) (shown : D → DiskShown) (store
     reads = tt;
     over = λ store_tells tells n at mine f stands all none unused is honest is_armed.
         signed_over old.id (IsEvent names names clock later_clock r) shown store mine before after old new at f n set taken t r u
-        (untimed_over told shown before after old new set taken q r u step in_form own_q is_id_q alone store n at mine f (signed_stands old.id shown old n set taken t before.log f stands) tells clock later_clock names rose);
+        (untimed_over told shown before after old new set taken q r u step in_form own_q is_id_q alone store n at mine f (signed_stands old.id shown old n set taken t before.log f stands) tells clock later_clock names rose
+        (subst (λ (names : List Id16). Includes mine names) (sym (signed_mine old.id old n set taken t)) all));
   }
 
   pub untimed_notes : ((disk : D) → told.tells → (image : List ℕ) → (shown disk).left_since (shown disk).moment image → (shown disk).may_leave image) → is_shut old.ledger.log ≡ false
@@ -194,6 +199,9 @@ module _ {D : Type 0} {g : _} (told : DiskTold) (shown : D → DiskShown) (store
         any_moment = moments_end told shown old.ledger new.ledger q r only_now is_open w step.ends;
         may = λ store_tells n mine f stands all honest.
             may_fold told shown old.ledger new.ledger q r w (may_void told shown before after old new set taken q r u step in_form own_q is_id_q alone before.log stands.stands.fits);
+        left = λ store_tells n mine f stands all honest.
+            subst (λ (s : StoreShown). FoldsFit s.log old.id old.ledger.databases.kept (void_notes told shown old.ledger new.ledger q r w)) (sym step.store_same)
+            (left_end told shown old.ledger new.ledger q r before.log old.id (client_kept before.log (entries_of old) (parts_of old) stands.stands.fits) w);
       }
 
   -- every clause

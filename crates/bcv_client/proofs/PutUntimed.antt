@@ -11,11 +11,11 @@ use Rattle.bcv_base.specs.History.{history_of}
 use Rattle.bcv_base.specs.Ids.{IsId}
 use Rattle.bcv_base.specs.Moments.{ClockShown}
 use Rattle.bcv_cache.specs.Entry.{Blocks}
+use Rattle.bcv_clientlaws.specs.OtherParts.{FitsKept, Includes}
 use Rattle.bcv_clientlog.specs.LogParts.{is_shut}
 use Rattle.bcv_clientstate.specs.Fits.{Fits}
-use Rattle.bcv_clientstate.specs.Journaled.{Journaled, free_failed, free_noted}
 use Rattle.bcv_clientstate.specs.PartRefusals.{runs_publication}
-use Rattle.bcv_clientstate.specs.Parts.{Parts, Task, with_ledger}
+use Rattle.bcv_clientstate.specs.Parts.{Parts, Task, mine_of, with_ledger}
 use Rattle.bcv_clientstate.specs.Parts as parts
 use Rattle.bcv_clientstate.specs.SeenClient.{Free}
 use Rattle.bcv_databases.specs.Catalog.{Catalog}
@@ -25,8 +25,7 @@ use Rattle.bcv_dbmap.specs.Sound.{IsSoundLog}
 use Rattle.bcv_disk.specs.DiskShown.{DiskShown, DiskTold}
 use Rattle.bcv_ledger.specs.declared.ledger.Ledger.{Ledger}
 use Rattle.bcv_ledger.specs.LedgerNotes.{parts_in}
-use Rattle.bcv_ledger.specs.NoteEnds.{EndGoes, IsNoteFault, kept_ended, known_ended}
-use Rattle.bcv_machine.specs.State as m
+use Rattle.bcv_ledger.specs.NoteEnds.{IsNoteFault, kept_ended, known_ended}
 use Rattle.bcv_model.specs.declared.kept.Kept.{Kept}
 use Rattle.bcv_model.specs.declared.kept.PendingPub.{PendingPub}
 use Rattle.bcv_model.specs.declared.note.Note.{Note}
@@ -34,15 +33,17 @@ use Rattle.bcv_model.specs.declared.note.Note.TheVariants as note
 use Rattle.bcv_model.specs.declared.reply.Reply.{Reply}
 use Rattle.bcv_model.specs.declared.reply.Reply.TheVariants as reply
 use Rattle.bcv_model.specs.NoteRules.{Folds, IsPendingAs, MayEnd, MayStand}
-use Rattle.bcv_model.specs.Notes.{after_note, note_size}
+use Rattle.bcv_model.specs.Notes.{after_note}
 use Rattle.bcv_pages.specs.Held.{Held}
 use Rattle.bcv_publish.specs.declared.work.Work.TheVariants as work
+use Rattle.bcv_publisher.specs.NotesFit.{FoldsFit}
 use Rattle.bcv_publisher.specs.PollStep.{IsReadForm}
 use Rattle.bcv_publisher.specs.Settles.{Voids, reply_by}
 use Rattle.bcv_publisher.specs.StepNotes.{LeavesNotes, NotesPublication}
 use Rattle.bcv_publisher.specs.WorkEnds.{EndsBy}
 use Rattle.bcv_publisher.specs.WorkStep.{IsEvent}
 use Rattle.bcv_publisher.proofs.Moments.{leaves_kept}
+use Rattle.bcv_publisher.proofs.NotesFit.{void_kept}
 use Rattle.bcv_publisher.proofs.StepMoments.{end_moment}
 use Rattle.bcv_publisher.proofs.WorkFits.{ledger_fits}
 use Rattle.bcv_slots.specs.declared.Slot.{Slot}
@@ -55,16 +56,18 @@ use Rattle.bcv_client.specs.ClientForm.{HasSize, IsInForm, PendingFor, PublishIn
 use Rattle.bcv_client.specs.ClientParts.{entries_of, parts_of}
 use Rattle.bcv_client.specs.Events.{SawItsReads, StandsOver}
 use Rattle.bcv_client.specs.NewTasks.{is_busy}
-use Rattle.bcv_client.specs.PublicationOver.{GoesOnOver, PublicationOver, StaysInForm, StandsWith}
+use Rattle.bcv_client.specs.PublicationOver.{GoesOnOver, PublicationOver, StaysInForm, StandsWith, mine_with, publishing_part}
 use Rattle.bcv_client.specs.PublicationPut.{EndsUntimed}
 use Rattle.bcv_client.specs.TaskParts.{entries_in, sets_in, task_part}
 use Rattle.bcv_client.specs.declared.client.Client.{Client}
 use Rattle.bcv_client.specs.declared.job.Job.{Job}
 use Rattle.bcv_client.proofs.BlockSizes.{size_void}
 use Rattle.bcv_client.proofs.BusyTasks.{busy_jobs}
+use Rattle.bcv_client.proofs.MyNames.{named_by, pending_was, tasks_by, tasks_were, without_task_mine}
 use Rattle.bcv_client.proofs.TaskStands.{quiet_saw, waits_for}
 use Rattle.bcv_client.proofs.RevertForm.{quiet_changes, quiet_slots, size_as_before}
 use Rattle.bcv_client.proofs.SetViews.{keeps_txns, tasks_same, txns_same}
+use Rattle.bcv_client.proofs.WorkFlights.{LeavesNames, names_left}
 
 same_views : (sets : List (Option Held)) → KeepsViews sets sets
 same_views sets place h at = (h, at, (λ from to can. (can, refl)), refl)
@@ -124,22 +127,6 @@ module _ {D : Type 0} {g : _} (told : DiskTold) (shown : D → DiskShown) (l k :
     size_end None ends = subst (λ (y : Ledger D g). HasSize size y.databases blocks) (sym ends.0) has
     size_end (Some x) h = size_by h h.fault refl
 
-  -- the journal holds what is kept
-  module _ (tells : told.tells) (f : Free) (journaled : Journaled shown l.log l.databases.kept f) where
-    abbrev Holding : Type 0
-    Holding = (free : Free) × (free.slots ≡ f.slots) × Journaled shown k.log k.databases.kept free
-
-    held_by : (o : Option Reply) → EndGoes shown k.log k.databases.kept f void m.Voiding o → Holding
-    held_by None goes = (free_noted (note_size void) f, refl, goes)
-    held_by (Some reply.JournalFull) goes = (f, refl, goes.0)
-    held_by (Some reply.DiskFault) goes = (free_failed (note_size void) m.Voiding f, refl, goes)
-    held_by (Some reply.NoMemory) goes = (f, refl, goes)
-    held_by (Some _) goes = absurd goes
-
-    pub held_end : (w : Option PendingPub) → (IsSome w → MayStand l.databases.kept void) → EndsBy told shown l k t w reply.ClockFault r → Holding
-    held_end None may ends = (f, refl, subst (λ (y : Ledger D g). Journaled shown y.log y.databases.kept f) (sym ends.0) journaled)
-    held_end (Some x) may h = held_by h.fault (h.ends.goes tells (may refl) f journaled m.Voiding refl)
-
   -- ---- what is noted
 
   abbrev pub void_notes : Option PendingPub → List Note
@@ -153,6 +140,10 @@ module _ {D : Type 0} {g : _} (told : DiskTold) (shown : D → DiskShown) (l k :
   pub may_fold : (w : Option PendingPub) → (IsSome w → MayStand l.databases.kept void) → (end : Kept) × Folds l.databases.kept (void_notes w) end
   may_fold None may = (l.databases.kept, refl)
   may_fold (Some x) may = (after_note l.databases.kept void, (may refl, refl))
+
+  pub left_end : (log : List Entry) (id : Id16) → FitsKept log id l.databases.kept [] → (w : Option PendingPub) → FoldsFit log id l.databases.kept (void_notes w)
+  left_end log id fits None = fits
+  left_end log id fits (Some x) = (fits, void_kept log id (id_of t) l.databases.kept fits)
 
   pub moments_end : ((disk : D) → told.tells → (image : List ℕ) → (shown disk).left_since (shown disk).moment image → (shown disk).may_leave image) → is_shut l.log ≡ false
       → (w : Option PendingPub) → EndsBy told shown l k t w reply.ClockFault r → told.tells → (end : Kept) → Folds l.databases.kept (void_notes w) end
@@ -237,12 +228,19 @@ module _ {D : Type 0} {g : _} (told : DiskTold) (shown : D → DiskShown) (befor
   -- ---- over a log
 
   module _ (store : StoreTold) (n moment : ℕ) (mine : List Id16) (f : Free) (stands : StandsWith shown old n set taken t before.log f) (tells : told.tells) (clock later_clock : ClockShown) (names : NamesShown)
-      (rose : Rose clock.faults later_clock.faults) where
-    free_then : (free : Free) × (free.slots ≡ f.slots) × Journaled shown new.ledger.log d.kept free
-    free_then =
-        held_end told shown old.ledger new.ledger t r tells f stands.stands.journaled c.kept.pending (may_void before.log stands.stands.fits) step.ends
+      (rose : Rose clock.faults later_clock.faults) (all : Includes mine (mine_with old n set taken t)) where
+    left : LeavesNames told shown mine old.ledger new.ledger t f tells stands.stands.journaled
+    left = names_left told shown mine old.ledger new.ledger t f tells stands.stands.journaled (may_void before.log stands.stands.fits) work.ClockFault r step.ends
 
-    stands_then : StandsOver shown new before.log free_then.0
+    my_own : Includes mine (mine_of p)
+    my_own = without_task_mine mine p (publishing_part c n set taken t) all
+
+    names_then : Includes mine (mine_of (parts_of new))
+    names_then =
+        named_by mine old new my_own step.only.id (left.pending (pending_was mine old new my_own))
+        (tasks_by mine old new my_own old.tasks.items (ap (λ x. x.items) step.only.tasks) (tasks_were mine old new my_own))
+
+    stands_then : StandsOver shown new before.log left.free
     stands_then = record {
       sound = stands.stands.sound;
       fits =
@@ -250,16 +248,18 @@ module _ {D : Type 0} {g : _} (told : DiskTold) (shown : D → DiskShown) (befor
           (subst (λ (o : Open). Fits (with_ledger (parts_in new.ledger) p) (entries_in o.cache) before.log) (sym step.only.txns)
           (ledger_fits told shown old.ledger new.ledger before.log p (entries_of old) stands.stands.fits alone t work.ClockFault r step.ends));
       saw = subst (AllByRecursion (λ (s : Slot Job). SawItsReads (history_of before.log) s.item)) (sym (ap (λ x. x.items) step.only.tasks)) (quiet_saw (history_of before.log) old.tasks.items none_busy);
-      journaled = free_then.2;
-      slots = free_then.1 ∙ stands.stands.slots ∙ sym (ap (λ (o : Open). o.slots) step.only.txns);
+      journaled = left.journaled;
+      slots = left.slots ∙ stands.stands.slots ∙ sym (ap (λ (o : Open). o.slots) step.only.txns);
     }
 
     here_over : PublicationOver (IsEvent names names clock later_clock r) shown store mine before before old new moment f n set taken t r u
     here_over = record {
       over = record {
         growth = none_grown store.alone mine before.log stands.stands.sound;
-        free = free_then.0;
+        free = left.free;
         stands = stands_then;
+        names = names_then;
+        flight = left.flight;
         event = λ is. absurd (is.moment rose);
       };
       on = reply_is told shown old.ledger new.ledger t r (λ (y : Reply). GoesOnOver mine new.id d before.log n set taken y u) tt tt tt tt c.kept.pending step.ends;

@@ -1,16 +1,18 @@
 -- The step of a resolve over a client.
 use Rattle.std.proofs.Common.{◌≡◌, ◌≢◌, ◌∙◌, ℕ, true, false, List, ◌++◌, Option, Some, None, refl, sym, ap, subst}
 use Rattle.std.specs.List.{AllByRecursion, list_any}
+use Rattle.bcv_base.specs.declared.id.Id16.{Id16}
 use Rattle.bcv_base.specs.declared.log.Entry.{Entry}
 use Rattle.bcv_base.specs.declared.outcome.Outcome.{Outcome}
 use Rattle.bcv_base.specs.declared.outcome.Outcome.TheVariants as outcome
 use Rattle.bcv_base.specs.History.{history_of}
+use Rattle.bcv_clientlaws.specs.OtherParts.{Includes}
 use Rattle.bcv_clientlog.specs.declared.log.ClientLog.{ClientLog}
 use Rattle.bcv_clientlog.specs.LogParts.{is_shut}
 use Rattle.bcv_clientstate.specs.Fits.{Fits}
 use Rattle.bcv_clientstate.specs.Journaled.{Journaled}
 use Rattle.bcv_clientstate.specs.PartRefusals.{runs_publication}
-use Rattle.bcv_clientstate.specs.Parts.{Parts, with_ledger}
+use Rattle.bcv_clientstate.specs.Parts.{Parts, mine_of, names_of_pending, with_ledger}
 use Rattle.bcv_clientstate.specs.SeenClient.{Free, seen_up, side_of}
 use Rattle.bcv_databases.specs.Catalog.{Catalog}
 use Rattle.bcv_databases.specs.Sound.{AreDatabases}
@@ -18,10 +20,12 @@ use Rattle.bcv_databases.specs.declared.known.Known.{Known}
 use Rattle.bcv_disk.specs.DiskShown.{DiskShown, DiskTold}
 use Rattle.bcv_ledger.specs.declared.ledger.Ledger.{Ledger}
 use Rattle.bcv_ledger.specs.LedgerNotes.{parts_in}
+use Rattle.bcv_ledger.specs.NoteEnds.{ShutAfter}
 use Rattle.bcv_machine.specs.Noting.{NoteFails}
 use Rattle.bcv_machine.specs.Resolve.{Resolves, ResolvesAs, ResolvesPending, number_from}
 use Rattle.bcv_machine.specs.State as m
 use Rattle.bcv_model.specs.declared.kept.Kept.{Kept}
+use Rattle.bcv_model.specs.declared.kept.PendingPub.{PendingPub}
 use Rattle.bcv_model.specs.declared.reply.Reply.{Reply}
 use Rattle.bcv_model.specs.declared.reply.Reply.TheVariants as reply
 use Rattle.bcv_publisher.specs.PutStep.{Armed, version_added}
@@ -30,6 +34,7 @@ use Rattle.bcv_client.proofs.OthersGrew.{grown_by_others}
 use Rattle.bcv_slots.specs.declared.Slot.{Slot}
 use Rattle.bcv_store.specs.StoreShown.{StoreShown, StoreTold}
 use Rattle.bcv_transaction.specs.Open.{Open}
+use Rattle.bcv_client.specs.CallNames.{flight_names}
 use Rattle.bcv_client.specs.ClientForm.{HasSize, IsInForm}
 use Rattle.bcv_client.specs.ClientParts.{entries_of, parts_of}
 use Rattle.bcv_client.specs.Events.{IsArmed}
@@ -41,7 +46,9 @@ use Rattle.bcv_client.specs.TaskParts.{entries_in}
 use Rattle.bcv_client.specs.declared.client.Client.{Client}
 use Rattle.bcv_client.specs.declared.job.Job.{Job}
 use Rattle.bcv_client.specs.declared.job.Job.TheVariants as job
+use Rattle.bcv_client.proofs.Flights.{resolve_flies}
 use Rattle.bcv_client.proofs.LedgerParts.{ledger_alone}
+use Rattle.bcv_client.proofs.MyNames.{named_by, none_flies, none_mine, none_pending, pending_by, pending_was, tasks_by, tasks_were}
 use Rattle.bcv_client.proofs.PollOver.{none_added}
 use Rattle.bcv_client.proofs.ReadsSaw.{saw_grown, saw_same}
 use Rattle.bcv_client.proofs.RevertForm.{quiet_slots, quiet_stays, size_as_before}
@@ -158,6 +165,33 @@ module _ {D : Type 0} {g : _} (told : DiskTold) (shown : D → DiskShown) (store
   journaled_now free j =
       subst (λ (l : ClientLog D _). Journaled shown l d.kept free) (sym same.log) (subst (λ (k : Kept). Journaled shown mid.log k free) (sym same.kept) j)
 
+  -- nothing is pending, or what was
+  pending_then : (mine : List Id16) → Includes mine (mine_of p) → (x : Reply) → ResolveLeaves old.ledger mid res.resolves.pending.id x → Includes mine (names_of_pending d.kept.pending)
+  pending_then mine all x leaves = by x leaves
+    where
+      from : (w : Option PendingPub) → mid.databases.kept.pending ≡ w → Includes mine (names_of_pending w) → Includes mine (names_of_pending d.kept.pending)
+      from w is names = pending_by mine old new all w (ap (λ (k : Kept). k.pending) same.kept ∙ is) names
+
+      still : mid.databases.kept ≡ c.kept → Includes mine (names_of_pending d.kept.pending)
+      still is = from c.kept.pending (ap (λ (k : Kept). k.pending) is) (pending_was mine old new all)
+
+      by : (y : Reply) → ResolveLeaves old.ledger mid res.resolves.pending.id y → Includes mine (names_of_pending d.kept.pending)
+      by (reply.Resolved n) l = from None (ap (λ (k : Kept). k.pending) l.0 ∙ none_pending n c.kept c.kept.pending refl) (none_mine mine)
+      by reply.Voided l = from None (ap (λ (k : Kept). k.pending) l.0) (none_mine mine)
+      by (reply.BadManifest at) l = still (ap (λ (x : Ledger D g). x.databases.kept) l)
+      by reply.StoreFault l = still (ap (λ (x : Ledger D g). x.databases.kept) l)
+      by reply.DiskFault l = still l.0
+      by reply.NoMemory l = still l.0
+      by _ l = absurd l
+
+  -- no intent is in flight that was not
+  flies_then : (mine : List Id16) (moment : ℕ) (log : List Entry) (o : Outcome) (f free : Free) (x : Reply) → ShutAfter (Some x) (is_shut mid.log) → Journaled shown mid.log mid.databases.kept free
+      → (x ≢ reply.NoMemory → Resolves (side_of moment (history_of log) p f) (seen_up (history_of log) p) o x (side_of moment (history_of log) (with_ledger (parts_in mid) p) free))
+      → Includes mine (flight_names f.flight) → Includes mine (flight_names free.flight)
+  flies_then mine moment log o f free reply.DiskFault shut j does flies =
+      resolve_flies mine (side_of moment (history_of log) p f) (seen_up (history_of log) p) o (side_of moment (history_of log) (with_ledger (parts_in mid) p) free) (does (λ e. absurd (cc))) flies
+  flies_then mine moment log o f free _ shut j does flies = none_flies mine shown mid.log mid.databases.kept free j shut
+
   pub resolve_ends : EndsJob told shown store before after old new job.Resolve r
   resolve_ends tells disk number moment mine f stands all grew is_armed =
       let says = res.resolves.machine tells disk p (entries_of old) mine stands.sound stands.fits alone refl refl all grew in
@@ -176,6 +210,8 @@ module _ {D : Type 0} {g : _} (told : DiskTold) (shown : D → DiskShown) (store
           journaled = journaled_now free (slots_apart shown mid.log mid.databases.kept steps.0 f.slots steps.1);
           slots = stands.slots ∙ sym (ap (λ (o : Open). o.slots) only.txns);
         };
+        names = named_by mine old new all only.id (pending_then mine all r res.resolves.leaves) (tasks_by mine old new all old.tasks.items only.tasks (tasks_were mine old new all));
+        flight = flies_then mine moment after.log says.request f steps.0 r res.resolves.shut steps.1 (λ memory. steps.2 memory moment);
         event = λ memory.
             let slots : steps.0.slots ≡ f.slots = resolve_slots (side_of moment (history_of after.log) p f) (seen_up (history_of after.log) p) says.request r (side_of moment (history_of after.log) (with_ledger (parts_in mid) p) steps.0) (steps.2 memory moment) in
             let is_free : steps.0 ≡ free = ap (λ (n : ℕ). record steps.0 { slots = n }) slots in

@@ -5,7 +5,8 @@ use Rattle.std.proofs.lemmas.Option.{same_Some}
 use Rattle.bcv_base.specs.declared.log.Entry.{Entry}
 use Rattle.bcv_base.specs.History.{Item, history_of}
 use Rattle.bcv_base.specs.Keyed.{with_keyed}
-use Rattle.bcv_clientlaws.proofs.OtherParts.{kept_fits_quietly}
+use Rattle.bcv_clientlaws.specs.OtherParts.{Includes}
+use Rattle.bcv_clientlaws.proofs.OtherParts.{includes_all, kept_fits_quietly}
 use Rattle.bcv_clientlog.specs.declared.log.ClientLog.{ClientLog}
 use Rattle.bcv_clientlog.specs.LogParts.{is_shut}
 use Rattle.bcv_clientstate.specs.BaseLaws.{FitsLocal}
@@ -23,6 +24,7 @@ use Rattle.bcv_databases.specs.declared.known.Known.{Known}
 use Rattle.bcv_disk.specs.DiskShown.{DiskShown, DiskTold}
 use Rattle.bcv_ledger.specs.FitsLedger.{FitsLedger}
 use Rattle.bcv_ledger.specs.LedgerNotes.{parts_in}
+use Rattle.bcv_ledger.specs.NoteEnds.{ShutAfter}
 use Rattle.bcv_ledger.specs.LocalCalls.{LedgerReverts, LocalSteps, RevertNotes, RevertSteps, RevertsFrom, fault_of}
 use Rattle.bcv_ledger.specs.LocalCalls as ledger
 use Rattle.bcv_ledger.specs.declared.ledger.Ledger.{Ledger}
@@ -48,7 +50,10 @@ use Rattle.bcv_client.specs.declared.job.Job.{Job}
 use Rattle.bcv_client.proofs.FormKept.{form_stays}
 use Rattle.bcv_client.proofs.FirstReasons.{free_to_revert, same_views}
 use Rattle.bcv_client.proofs.LedgerParts.{fits_closed, fits_same, ledger_alone, ledger_same, stands_by}
+use Rattle.bcv_client.specs.CallNames.{flight_names}
+use Rattle.bcv_client.proofs.Flights.{revert_flies}
 use Rattle.bcv_client.proofs.MachineSlots.{reverts_keep_slots}
+use Rattle.bcv_client.proofs.MyNames.{none_flies}
 use Rattle.bcv_client.proofs.RevertForm.{quiet_slots, quiet_stays, size_as_before, size_reverted}
 use Rattle.bcv_client.proofs.BusyTasks.{busy_jobs}
 use Rattle.bcv_client.proofs.SetViews.{KeepsSlot, KeepsTxn, both_keep, keeps_slots, keeps_txns}
@@ -183,6 +188,15 @@ module _ {D : Type 0} {g : _} (told : DiskTold) (shown : D → DiskShown) (old n
         ∙ ap (λ (k : Kept). record p { closed = is_shut new.ledger.log; kept = k; known = mid.databases.known }) (sym s.kept)
         ∙ ap (λ (k : List Known). record p { closed = is_shut new.ledger.log; kept = d.kept; known = k }) (sym s.known)
 
+    -- no intent is in flight that was not
+    flies_after : (r : Reply) (moment : ℕ) (log : List Entry) (f free : Free) → ShutAfter (fault_of r) (is_shut mid.log) → Journaled shown mid.log mid.databases.kept free
+        → machine.Reverts (side_of moment (history_of log) p f) (seen_up (history_of log) p) db r (side_of moment (history_of log) (with_ledger (parts_in mid) p) free)
+        → Includes (flight_names f.flight) (flight_names free.flight)
+    flies_after reply.DiskFault moment log f free shut j goes =
+        revert_flies (flight_names f.flight) (side_of moment (history_of log) p f) (seen_up (history_of log) p) db (side_of moment (history_of log) (with_ledger (parts_in mid) p) free) goes
+        (includes_all (flight_names f.flight))
+    flies_after _ moment log f free shut j goes = none_flies (flight_names f.flight) shown mid.log mid.databases.kept free j shut
+
     refused : (why r : Reply) (moment : ℕ) (log : List Entry) (f : Free) → Why (Some why) → RevertsFrom told shown old.ledger mid db r (Some why) → StandsOver shown old log f
         → NotesOver shown (Goes r) old new moment log f r
     refused why r moment log f is from stands =
@@ -194,6 +208,7 @@ module _ {D : Type 0} {g : _} (told : DiskTold) (shown : D → DiskShown) (old n
           stands =
               stands_by old new only shown log f f parts_after stands (fits_same (parts_in new.ledger) p (entries_of old) log kept knows stands.fits)
               (subst (λ (l : ClientLog D _). Journaled shown l d.kept f) (sym (s.log ∙ from.1.log)) (subst (λ (k : Kept). Journaled shown old.ledger.log k f) (sym kept) stands.journaled)) refl;
+          flight = includes_all (flight_names f.flight);
           goes = record {
             event = λ some.
                 subst (λ (x : Parts). Goes r (client_side moment log old f) (client_up log old) (side_of moment (history_of log) x f)) (sym same)
@@ -214,6 +229,7 @@ module _ {D : Type 0} {g : _} (told : DiskTold) (shown : D → DiskShown) (old n
           stands =
               stands_by old new only shown log f f parts_after stands (fits_noted log reply.NoMemory is notes stands.fits)
               (journaled_now f (notes.ends.goes tells may.may f stands.journaled (m.Reverting db) may.is)) refl;
+          flight = includes_all (flight_names f.flight);
           goes = record { event = λ some. absurd (some tt); still = λ none. ap (λ (x : Parts). side_of moment (history_of log) x f) same };
         }
     noted reply.NamesFault moment log f tells is notes steps stands armed = absurd notes.ends.answers
@@ -225,6 +241,7 @@ module _ {D : Type 0} {g : _} (told : DiskTold) (shown : D → DiskShown) (old n
         record {
           free = step.free;
           stands = stands_by old new only shown log f step.free parts_after stands (fits_noted log r is notes stands.fits) (journaled_now step.free step.journaled) slots;
+          flight = flies_after r moment log f step.free notes.ends.shut step.journaled step.goes;
           goes = record {
             event = λ some.
                 subst (λ (x : Parts). Goes r (client_side moment log old f) (client_up log old) (side_of moment (history_of log) x step.free)) (same_parts ∙ sym parts_after) step.goes;

@@ -238,6 +238,8 @@ module _ {D : Type 0} {g : _} (shown : D → DiskShown) (store : StoreTold) (bef
     growth = over.growth;
     free = over.free;
     stands = over.stands;
+    names = over.names;
+    flight = over.flight;
     event = λ is.
         let e = over.event is in
         let log : List Entry = before.log ++ over.growth.others in

@@ -1,5 +1,5 @@
 -- A transaction that begins: the client stays in form, and it is an event of the machine.
-use Rattle.std.proofs.Common.{◌≡◌, ◌≢◌, ◌∙◌, ◌++◌, ℕ, eqb, Bool, true, false, cond, nat_le, List, [], ◌∷◌, length, Option, Some, None, IfSome, MatchOption, is_none, is_some, option_and_then, unwrap_or, refl, sym, ap, subst, inl, inr, arith}
+use Rattle.std.proofs.Common.{◌≡◌, ◌∙◌, ◌++◌, ℕ, eqb, Bool, true, false, cond, nat_le, List, [], ◌∷◌, length, Option, Some, None, IfSome, MatchOption, is_none, is_some, option_and_then, unwrap_or, refl, sym, ap, subst, inl, inr, arith}
 use Rattle.std.specs.List.{AllByRecursion, list_all}
 use Rattle.std.specs.Option.{option_map}
 use Rattle.std.proofs.lemmas.Bool.{cases_eq, eqb-true}
@@ -60,7 +60,7 @@ use Rattle.bcv_client.specs.ClientParts.{entries_of, no_set, parts_of, sets_in}
 use Rattle.bcv_client.specs.Events.{Locally, LocallyOver, StandsOver, client_side, client_up}
 use Rattle.bcv_client.specs.InForm.{InForm}
 use Rattle.bcv_client.specs.Transactions.{OnlyTxns}
-use Rattle.bcv_client.specs.TxnBegins.{BeginsAt, BeginsNone, BegunOver, HasCommits, HasNoCommits, IsKnownEntry, OnlyBegins, BeginsTxn, BeginsView, base_over, base_with, begun_reply, part_at}
+use Rattle.bcv_client.specs.TxnBegins.{BeginsAt, BeginsNone, BegunOver, HasCommits, HasNoCommits, IsKnownEntry, OnlyBegins, base_over, base_with, begun_reply, part_at}
 use Rattle.bcv_client.specs.declared.client.Client.{Client}
 use Rattle.bcv_client.specs.declared.job.Job.{Job}
 use Rattle.bcv_client.specs.declared.job.Job.TheVariants as job
@@ -310,11 +310,6 @@ begins_only {D = D} {g = g} old new only = record {
   tasks = only.tasks;
   taken = only.reading.taken;
 }
-
--- no begin draws a name
-pub no_name_begins : {D : Type 0} {g : _} (old new : Client D g) (o : Option View) (r : Reply) → BeginsTxn old new o r → r ≢ reply.NamesFault
-no_name_begins old new None r begins = λ same. (let both : reply.NoDatabase ≡ reply.NamesFault = sym begins.0 ∙ same in cc)
-no_name_begins old new (Some v) r begins = λ same. subst (BeginsView old new v) same begins
 
 -- a begin that is refused
 module _ {D : Type 0} {g : _} (shown : D → DiskShown) (c : Client D g) (db : List ℕ) where

@@ -1,5 +1,5 @@
 -- The step of a publication before its put over a client: it is the machine's, and the client stands afterwards.
-use Rattle.std.proofs.Common.{◌≡◌, ◌∙◌, ◌<◌, ◌^◌, ℕ, true, false, List, [], ◌++◌, map, append-nil, Option, Some, None, IfSome, inl, inr, refl, sym, ap, subst, arith}
+use Rattle.std.proofs.Common.{◌≡◌, ◌∙◌, ◌<◌, ◌^◌, ℕ, true, false, List, [], ◌++◌, map, append-nil, Option, Some, None, IfSome, IsSome, inl, inr, refl, sym, ap, subst, arith}
 use Rattle.std.specs.Global.{Vec}
 use Rattle.std.specs.List.{AllByRecursion, list_any}
 use Rattle.bcv_base.specs.declared.id.Id16.{Id16}
@@ -9,6 +9,7 @@ use Rattle.bcv_base.specs.declared.seen.Latest.{Latest}
 use Rattle.bcv_base.specs.declared.seen.Seen.{Seen}
 use Rattle.bcv_base.specs.Drawn.{AddsNames, NamesShown}
 use Rattle.bcv_base.specs.History.{history_of}
+use Rattle.bcv_base.specs.Ids.{IsId}
 use Rattle.bcv_base.specs.Image.{Writes}
 use Rattle.bcv_base.specs.Moments.{ClockShown, Tells}
 use Rattle.bcv_base.specs.declared.clock.Now.TheVariants as now
@@ -18,7 +19,7 @@ use Rattle.bcv_clientlaws.specs.OtherParts.{Includes}
 use Rattle.bcv_clientstate.specs.Fits.{Fits, FitsJob}
 use Rattle.bcv_clientstate.specs.Journaled.{Journaled}
 use Rattle.bcv_clientstate.specs.PartRefusals.{runs_publication}
-use Rattle.bcv_clientstate.specs.Parts.{OpenTxn as Txn, Parts, Task, with_ledger}
+use Rattle.bcv_clientstate.specs.Parts.{OpenTxn as Txn, Parts, Task, mine_of, names_of_job, with_ledger}
 use Rattle.bcv_clientstate.specs.SeenClient.{Free, side_of}
 use Rattle.bcv_clientstate.specs.Stages.{IsStagedJob}
 use Rattle.bcv_clientlog.specs.LogParts.{is_shut}
@@ -26,11 +27,15 @@ use Rattle.bcv_databases.specs.Catalog.{Catalog}
 use Rattle.bcv_dbmap.specs.Honest.{GrewHonestly}
 use Rattle.bcv_dbmap.specs.RequestGrowth.{RequestGrowth}
 use Rattle.bcv_disk.specs.DiskShown.{DiskShown, DiskTold}
+use Rattle.bcv_ledger.specs.Begins.{WaitsFor}
 use Rattle.bcv_ledger.specs.declared.ledger.Ledger.{Ledger}
 use Rattle.bcv_ledger.specs.LedgerNotes.{parts_in}
 use Rattle.bcv_machine.specs.State as m
+use Rattle.bcv_model.specs.declared.kept.PendingPub.{PendingPub}
+use Rattle.bcv_model.specs.declared.note.Note.TheVariants as note
 use Rattle.bcv_model.specs.declared.reply.Reply.{Reply}
 use Rattle.bcv_model.specs.declared.reply.Reply.TheVariants as reply
+use Rattle.bcv_model.specs.NoteRules.{IsPendingAs, MayStand}
 use Rattle.bcv_publication.specs.TaskSides.{MayStep, job_of}
 use Rattle.bcv_publish.specs.declared.work.Work.{Work}
 use Rattle.bcv_publish.specs.declared.work.Work.TheVariants as work
@@ -41,7 +46,7 @@ use Rattle.bcv_publisher.proofs.WorkSteps.{request_is_step}
 use Rattle.bcv_slots.specs.declared.Slot.{Slot}
 use Rattle.bcv_store.specs.StoreShown.{StoreShown, StoreTold}
 use Rattle.bcv_tasks.specs.declared.publish_task.PublishTask.{PublishTask}
-use Rattle.bcv_tasks.specs.State.{is_ready, pending_of, refused_of}
+use Rattle.bcv_tasks.specs.State.{id_of, is_ready, pending_of, refused_of}
 use Rattle.bcv_tasks.specs.TaskWork.{WorkLeaves}
 use Rattle.bcv_transaction.specs.MachineCalls.{open_part}
 use Rattle.bcv_transaction.specs.Open.{Open}
@@ -50,16 +55,19 @@ use Rattle.bcv_client.specs.ClientForm.{IsInForm, PublishInForm}
 use Rattle.bcv_client.specs.ClientParts.{entries_of, parts_of, sets_in, task_part}
 use Rattle.bcv_client.specs.Events.{IsArmed, SawItsReads, StandsOver, client_side, client_up}
 use Rattle.bcv_client.specs.NewTasks.{is_busy}
-use Rattle.bcv_client.specs.PublicationOver.{GoesOnOver, OnlyPublishes, PublicationOver, ReadsMoment, StandsWith, StepsOnce, StepsTask, mine_with, publication_left, publication_of, view_at}
+use Rattle.bcv_client.specs.PublicationOver.{GoesOnOver, OnlyPublishes, PublicationOver, ReadsMoment, StandsWith, StepsOnce, StepsTask, mine_with, publication_left, publication_of, publishing_part, view_at}
 use Rattle.bcv_client.specs.Steps.{EventOver, said_over}
 use Rattle.bcv_client.specs.TaskParts.{entries_in}
 use Rattle.bcv_client.specs.TaskRequests.{AsksTask, ClientWorks, WorksNot, WorksOver, block_for, cache_for}
 use Rattle.bcv_client.specs.declared.client.Client.{Client}
 use Rattle.bcv_client.specs.declared.job.Job.{Job}
+use Rattle.bcv_client.proofs.JobNames.{fitting_id}
+use Rattle.bcv_client.proofs.MyNames.{named_by, pending_was, publication_mine, task_is_mine, tasks_by, tasks_were, without_task_mine}
 use Rattle.bcv_client.proofs.ResolveOver.{armed}
 use Rattle.bcv_client.proofs.RevertForm.{quiet_slots}
 use Rattle.bcv_client.proofs.SetViews.{keeps_txns, tasks_same, txns_same}
-use Rattle.bcv_client.proofs.TaskStands.{may_step, names_in_front, quiet_saw}
+use Rattle.bcv_client.proofs.TaskStands.{may_step, names_in_front, quiet_saw, waits_for}
+use Rattle.bcv_client.proofs.WorkFlights.{FliesAfter, event_or_not, flies_after, names_left}
 use Rattle.bcv_client.proofs.WorkForm.{CacheKept, cache_kept, made_entries, same_view, waits_by_id}
 
 -- ---- names and moments
@@ -152,9 +160,9 @@ module _ {D : Type 0} {g : _} (told : DiskTold) (shown : D → DiskShown) (answe
         }
     goes_on n mine log _ is ledger fits = tt
 
-    module _ (store_tells : store.tells) (tells : told.tells) (n moment : ℕ) (mine : List Id16) (f : Free) (stands : StandsWith shown old n set taken t before.log f)
+    module _ (store_tells : store.tells) (tells : told.tells) (n : ℕ) (mine : List Id16) (f : Free) (stands : StandsWith shown old n set taken t before.log f)
         (all : Includes mine (mine_with old n set taken t)) (drawn : Includes mine ids) (unused : AreUnused (history_of before.log) ids)
-        (at : IfSome (moment_read t u) (λ x. x ≡ moment)) (honest : GrewHonestly store.alone mine before.log after.log) (is_armed : IsArmed r f) where
+        (honest : GrewHonestly store.alone mine before.log after.log) where
       may_work : MayWork mine before.log (parts_of old) (cache_for old.txns t).entries n view old.seen t ids
       may_work = record {
         step =
@@ -168,27 +176,77 @@ module _ {D : Type 0} {g : _} (told : DiskTold) (shown : D → DiskShown) (answe
         unused = unused;
       }
 
+      -- whatever is armed
+      pub work_says : WorkSays shown store mine before after names later_names clock later_clock works.later old.ledger new.ledger (parts_of old) view t r u
+      work_says = works.step.machine store_tells tells (parts_of old) n mine may_work honest
+
+    module _ (store_tells : store.tells) (tells : told.tells) (n moment : ℕ) (mine : List Id16) (f : Free) (stands : StandsWith shown old n set taken t before.log f)
+        (all : Includes mine (mine_with old n set taken t)) (drawn : Includes mine ids) (unused : AreUnused (history_of before.log) ids)
+        (at : IfSome (moment_read t u) (λ x. x ≡ moment)) (honest : GrewHonestly store.alone mine before.log after.log) (is_armed : IsArmed r f) where
       says : WorkSays shown store mine before after names later_names clock later_clock works.later old.ledger new.ledger (parts_of old) view t r u
-      says = works.step.machine store_tells tells (parts_of old) n mine may_work honest
+      says = work_says store_tells tells n mine f stands all drawn unused honest
 
       journals : WorkJournals shown (before.log ++ says.growth.others) after.log names later_names clock later_clock old.ledger new.ledger (parts_of old) view t says.request r u f
       journals = says.journals f stands.stands.journaled (armed r f is_armed)
 
-      stands_after : StandsOver shown new after.log journals.free
+      -- ---- names
+
+      abbrev part : Task
+      part = publishing_part old.ledger.databases n set taken t
+
+      my_own : Includes mine (mine_of (parts_of old))
+      my_own = without_task_mine mine (parts_of old) part all
+
+      task_names : Includes mine (names_of_job (job_of view t))
+      task_names = task_is_mine mine (parts_of old) part all
+
+      -- void may stand where the publication is pending
+      may_void : IsSome old.ledger.databases.kept.pending → MayStand old.ledger.databases.kept (note.Void (id_of u))
+      may_void some = by old.ledger.databases.kept.pending refl (waits_for old.ledger.databases.kept.pending (pending_of taken t) (refused_of t) task.waits) some
+        where
+          by : (w : Option PendingPub) → old.ledger.databases.kept.pending ≡ w → WaitsFor w (pending_of taken t) → IsSome w → MayStand old.ledger.databases.kept (note.Void (id_of u))
+          by None none waits some = absurd (let e : false ≡ true = some in cc)
+          by (Some x) is waits some = record {
+            named = subst IsSome (sym stands.stands.fits.named) refl;
+            is_id = subst IsId (sym works.step.leaves.same_id) (fitting_id (mine_with old n set taken t) old.id old.ledger.databases.kept before.log view t task.running stands.task.fits);
+            waits =
+                subst (λ (o : Option PendingPub). IsPendingAs o (id_of u)) (sym is)
+                (ap (λ (y : PendingPub). y.id) waits ∙ sym works.step.leaves.same_id);
+          }
+
+      abbrev Flying : Type 0
+      Flying =
+          FliesAfter told shown mine (before.log ++ says.growth.others) after.log names later_names clock later_clock old.ledger new.ledger (parts_of old) view t says.request r u f tells stands.stands.journaled
+
+      -- what is free after the step
+      flies : Flying
+      flies =
+          flies_after told shown mine (before.log ++ says.growth.others) after.log names later_names clock later_clock old.ledger new.ledger (parts_of old) view t says.request r u f tells stands.stands.journaled journals
+          (names_left told shown mine old.ledger new.ledger u f tells stands.stands.journaled may_void works.step.made r works.step.ends) moment at
+          (publication_mine mine old.ledger.databases.kept.pending view t task_names) works.step.shut (event_or_not names later_names clock later_clock r)
+
+      names_after : Includes mine (mine_of (parts_of new))
+      names_after =
+          named_by mine old new my_own only.id (flies.left.pending (pending_was mine old new my_own))
+          (tasks_by mine old new my_own old.tasks.items (ap (λ (ss : Vec (Slot Job)). ss.items) only.tasks) (tasks_were mine old new my_own))
+
+      -- ---- the request
+
+      stands_after : StandsOver shown new after.log flies.left.free
       stands_after = record {
         sound = says.growth.sound;
         fits =
             subst (λ (p : Parts). Fits p (entries_of new) after.log) (sym parts_after)
             (subst (λ (es : List cache.Entry). Fits (with_ledger (parts_in new.ledger) (parts_of old)) es after.log) (sym kept.entries) says.client);
         saw = subst (λ (ss : Vec (Slot Job)). AllByRecursion (λ (s : Slot Job). SawItsReads (history_of after.log) s.item) ss.items) (sym only.tasks) (quiet_saw (history_of after.log) old.tasks.items quiet);
-        journaled = journals.journaled;
-        slots = journals.slots ∙ stands.stands.slots ∙ sym kept.slots;
+        journaled = flies.left.journaled;
+        slots = flies.left.slots ∙ stands.stands.slots ∙ sym kept.slots;
       }
 
       event_over : IsOne
-          → EventOver (StepsOnce (publication_of old.ledger.databases set t) (publication_left new.ledger.databases set r u)) store before after says.growth.others old new moment f journals.free r
+          → EventOver (StepsOnce (publication_of old.ledger.databases set t) (publication_left new.ledger.databases set r u)) store before after says.growth.others old new moment f flies.left.free r
       event_over event =
-          let goes = journals.goes event moment at in
+          let goes = flies.goes event moment at in
           let others : List Entry = before.log ++ says.growth.others in
           let q : m.Publication = publication_of old.ledger.databases set t in
           record {
@@ -199,18 +257,18 @@ module _ {D : Type 0} {g : _} (told : DiskTold) (shown : D → DiskShown) (answe
             cause = λ made bad. says.cause event bad;
             goes = λ o is. (
               goes.second,
-              subst (λ (x : Option m.Publication). StepsOnce q x (client_side moment others old f) (client_up others old) o (said_over others after.log r) goes.second (client_side moment after.log new journals.free))
+              subst (λ (x : Option m.Publication). StepsOnce q x (client_side moment others old f) (client_up others old) o (said_over others after.log r) goes.second (client_side moment after.log new flies.left.free))
                   (still_viewed r works.step.is_reply works.step.ledger)
-                  (subst (λ (p : Parts). StepsOnce q (rest_of new.ledger.databases.kept.pending view r u) (client_side moment others old f) (client_up others old) o (said_over others after.log r) goes.second (side_of moment (history_of after.log) p journals.free))
+                  (subst (λ (p : Parts). StepsOnce q (rest_of new.ledger.databases.kept.pending view r u) (client_side moment others old f) (client_up others old) o (said_over others after.log r) goes.second (side_of moment (history_of after.log) p flies.left.free))
                   (sym parts_after)
-                  (subst (λ (y : Outcome). StepsOnce q (rest_of new.ledger.databases.kept.pending view r u) (client_side moment others old f) (client_up others old) y (said_over others after.log r) goes.second (side_of moment (history_of after.log) (with_ledger (parts_in new.ledger) (parts_of old)) journals.free))
+                  (subst (λ (y : Outcome). StepsOnce q (rest_of new.ledger.databases.kept.pending view r u) (client_side moment others old f) (client_up others old) y (said_over others after.log r) goes.second (side_of moment (history_of after.log) (with_ledger (parts_in new.ledger) (parts_of old)) flies.left.free))
                   (sym (is refl)) goes.steps)),
             );
           }
 
-      work_over : PublicationOver IsOne shown store mine before after old new moment f n set taken t r u
+      pub work_over : PublicationOver IsOne shown store mine before after old new moment f n set taken t r u
       work_over = record {
-        over = record { growth = says.growth; free = journals.free; stands = stands_after; event = event_over };
+        over = record { growth = says.growth; free = flies.left.free; stands = stands_after; names = names_after; flight = flies.left.flight; event = event_over };
         on = goes_on n mine after.log r works.step.is_reply works.step.ledger says.job;
       }
 
@@ -222,7 +280,10 @@ module _ {D : Type 0} {g : _} (told : DiskTold) (shown : D → DiskShown) (answe
         parts_kept old new only sees reads form quiet (ap (λ (l : Ledger D g). map (open_part (sets_in l.databases)) old.txns.txns) nothing.ledger)
         ∙ ap (λ (l : Ledger D g). with_ledger (parts_in l) (parts_of old)) nothing.ledger
 
-    module _ (n moment : ℕ) (mine : List Id16) (f : Free) (stands : StandsWith shown old n set taken t before.log f) where
+    module _ (n moment : ℕ) (mine : List Id16) (f : Free) (stands : StandsWith shown old n set taken t before.log f) (all : Includes mine (mine_with old n set taken t)) where
+      still_mine : Includes mine (mine_of (parts_of new))
+      still_mine = subst (λ (p : Parts). Includes mine (mine_of p)) (sym parts_still) (without_task_mine mine (parts_of old) (publishing_part old.ledger.databases n set taken t) all)
+
       grown : RequestGrowth store.alone mine before.log before.log
       grown = record {
         others = [];
@@ -250,7 +311,7 @@ module _ {D : Type 0} {g : _} (told : DiskTold) (shown : D → DiskShown) (answe
       not_over =
           subst (λ (s : StoreShown). PublicationOver IsOne shown store mine before s old new moment f n set taken t r u) (sym nothing.store_is)
           (record {
-            over = record { growth = grown; free = f; stands = stands_still; event = λ event. absurd (event.memory nothing.memory) };
+            over = record { growth = grown; free = f; stands = stands_still; names = still_mine; flight = λ flies. flies; event = λ event. absurd (event.memory nothing.memory) };
             on = subst (λ (x : Reply). GoesOnOver mine new.id new.ledger.databases before.log n set taken x u) (sym nothing.memory) tt;
           })
 
@@ -272,7 +333,7 @@ module _ {D : Type 0} {g : _} (told : DiskTold) (shown : D → DiskShown) (answe
     few = omega arith;
     at = None;
     reads = tt;
-    over = λ store_tells tells n moment mine f stands all drawn unused at honest is_armed. not_over nothing n moment mine f stands;
+    over = λ store_tells tells n moment mine f stands all drawn unused at honest is_armed. not_over nothing n moment mine f stands all;
   }
 
 -- ---- from the request
@@ -314,13 +375,15 @@ module _ {D : Type 0} {g : _} (told : DiskTold) (shown : D → DiskShown) (answe
   only_then asks = record {
     id = ap (λ (c : Client D g). c.id) same;
     tasks = ap (λ (c : Client D g). c.tasks) same;
-    opened = by asks;
+    opened = (by asks).0;
+    slots = (by asks).1;
     taken = ap (λ (c : Client D g). c.taken) same;
   }
     where
-      by : AsksTask answers store before after names later_names clock later_clock old.seen old.ledger.databases set old.txns mid.txns t made u → mid.txns.txns ≡ old.txns.txns
-      by (inl asks) = (cache_kept old.txns mid.txns asks.later (view_at old.ledger.databases set t) t asks.keeps asks.request.cache).txns
-      by (inr nothing) = ap (λ (o : Open). o.txns) nothing.same
+      by : AsksTask answers store before after names later_names clock later_clock old.seen old.ledger.databases set old.txns mid.txns t made u
+          → (mid.txns.txns ≡ old.txns.txns) × (mid.txns.slots ≡ old.txns.slots)
+      by (inl asks) = let kept = cache_kept old.txns mid.txns asks.later (view_at old.ledger.databases set t) t asks.keeps asks.request.cache in (kept.txns, kept.slots)
+      by (inr nothing) = (ap (λ (o : Open). o.txns) nothing.same, ap (λ (o : Open). o.slots) nothing.same)
 
   pub sees_then : mid.seen ≡ old.seen
   sees_then = ap (λ (c : Client D g). c.seen) same

@@ -44,10 +44,11 @@ abbrev pub taken_with : Ask → ℕ → ℕ
 taken_with (ask.Commit db commit) taken = taken + 1
 taken_with _ taken = taken
 
--- the client is the same one, and has counted the commit of an ask
+-- the client is the same one with as many slots, and has counted the commit of an ask
 pub record SameWith {D : Type 0} {g : _} (q : Ask) (old new : Client D g) : Type 0 where
   pub id : new.id ≡ old.id
   pub taken : new.taken ≡ taken_with q old.taken
+  pub slots : new.txns.slots ≡ old.txns.slots
 
 -- ---- a look
 

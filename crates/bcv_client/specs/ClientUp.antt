@@ -23,6 +23,7 @@ use Rattle.bcv_risen.specs.declared.risen.Risen.TheVariants as risen
 use Rattle.bcv_risen.specs.declared.risen.RiseFault.{RiseFault}
 use Rattle.bcv_risen.specs.declared.risen.RiseFault.TheVariants as fault
 use Rattle.bcv_transaction.specs.Open.{Open}
+use Rattle.bcv_client.specs.CallNames.{LeavesFit}
 use Rattle.bcv_client.specs.ClientParts.{entries_of, parts_of}
 use Rattle.bcv_client.specs.Events.{StandsOver, client_side}
 use Rattle.bcv_client.specs.InForm.{InForm}
@@ -52,12 +53,13 @@ EmptyIfUp slots (up.Refused disk why) = Unit {0}
 
 -- ---- a client that crashed
 
--- it is up again: it has the id that it had, keeps what the machine says may be left, stands over the log, and the machine takes
--- its coming up with the table of its databases
+-- it is up again: it has the id that it had, keeps what the machine says may be left, stands over the log, which what a crash
+-- leaves of it fits, and the machine takes its coming up with the table of its databases
 pub record IsBack {D : Type 0} {g : _} (shown : D → DiskShown) (log : List Entry) (id : Id16) (k : Kept) (f : Free) (c : Client D g) : Type 0 where
   pub same : c.id ≡ id
   pub left : MayBeLeft (seen_kept k) f.flight (seen_kept c.ledger.databases.kept)
   pub stands : StandsOver shown c log (risen_free f)
+  pub leaves : LeavesFit shown c log
   pub comes_up : (moment : ℕ) → ComesUp (side_down moment (history_of log) k f)
       (reply.UpAgain (table_of c.ledger.databases) (is_some c.ledger.databases.kept.pending))
       (client_side moment log c (risen_free f))
@@ -81,11 +83,12 @@ ComesBack told shown disk slots result =
 
 -- ---- a client that comes up for the first time
 
--- it keeps its id alone, stands over every sound log, and is the machine's new client
+-- it keeps its id alone, stands over every sound log, which what a crash leaves of it fits, and is the machine's new client
 pub record IsNewlyUp {D : Type 0} {g : _} (shown : D → DiskShown) (slots most : ℕ) (c : Client D g) : Type 0 where
   pub kept : c.ledger.databases.kept ≡ after_note nothing_kept (note.Me c.id)
   pub stands : (log : List Entry) (f : Free) → IsSoundLog log → f.slots ≡ slots → f.flight ≡ None
       → most + 44 ≤ most_of f → StandsOver shown c log f
+  pub leaves : (log : List Entry) → IsSoundLog log → LeavesFit shown c log
   pub is_new : (past : List Item) → seen_client past (parts_of c) (new_free slots) ≡ m.new_client slots
 
 -- or the disk, the source of names or memory failed: its disk's file is a log
@@ -104,12 +107,13 @@ ComesNew told shown disk slots result =
 
 -- ---- down
 
--- a client that stood over a log with no note in flight is down, and the machine takes that as a crash
+-- a client that stood over a log is down, and the machine takes that as a crash
 pub record GoesDown {D : Type 0} {g : _} (shown : D → DiskShown) (c : Client D g) (disk : D) (log : List Entry) (f : Free) : Type 0 where
   pub is_down : IsDown (shown disk) log c.id c.ledger.databases.kept f
   pub crashes : (moment : ℕ) → Crashes (client_side moment log c f) reply.Crashed
       (side_down moment (history_of log) c.ledger.databases.kept f)
 
+-- whatever note is in flight, where what a crash may leave of it fits the log
 abbrev pub LeavesDown : {D : Type 0} {g : _} → (D → DiskShown) → Client D g → D → Type 0
 LeavesDown shown c disk =
-    (log : List Entry) (f : Free) → StandsOver shown c log f → f.flight ≡ None → GoesDown shown c disk log f
+    (log : List Entry) (f : Free) → StandsOver shown c log f → LeavesFit shown c log → GoesDown shown c disk log f

@@ -3,6 +3,7 @@ use Rattle.std.specs.Prelude.{◌≡◌, ℕ, true, List}
 use Rattle.std.specs.List.{AllByRecursion}
 use Rattle.bcv_base.specs.declared.log.Entry.{Entry}
 use Rattle.bcv_base.specs.History.{Item, history_of}
+use Rattle.bcv_clientlaws.specs.OtherParts.{Includes}
 use Rattle.bcv_clientstate.specs.Fits.{Fits, FitsSeen}
 use Rattle.bcv_clientstate.specs.Journaled.{Journaled}
 use Rattle.bcv_clientstate.specs.SeenClient.{Free, seen_up, side_of}
@@ -14,6 +15,7 @@ use Rattle.bcv_model.specs.declared.reply.Reply.TheVariants as reply
 use Rattle.bcv_publisher.specs.WorkStep.{seen_before}
 use Rattle.bcv_slots.specs.declared.Slot.{Slot}
 use Rattle.bcv_tasks.specs.State.{publish_of}
+use Rattle.bcv_client.specs.CallNames.{flight_names}
 use Rattle.bcv_client.specs.ClientParts.{entries_of, parts_of}
 use Rattle.bcv_client.specs.declared.client.Client.{Client}
 use Rattle.bcv_client.specs.declared.job.Job.{Job}
@@ -75,11 +77,12 @@ abbrev pub IsArmed : Reply → Free → Type 0
 IsArmed reply.DiskFault f = f.failing ≡ true
 IsArmed r f = Unit {0}
 
--- wherever the client stood it stands, with what was noted, and the machine goes so
+-- wherever the client stood it stands, with what was noted, no intent is in flight that was not, and the machine goes so
 pub record NotesOver {D : Type 0} {g : _} (shown : D → DiskShown) (Goes : m.Side → m.Up → m.Side → Type 0) (old new : Client D g)
     (moment : ℕ) (log : List Entry) (f : Free) (r : Reply) : Type 0 where
   pub free : Free
   pub stands : StandsOver shown new log free
+  pub flight : Includes (flight_names f.flight) (flight_names free.flight)
   pub goes : GoesBy Goes old new moment log f free r
 
 abbrev pub Noting : {D : Type 0} {g : _} → (D → DiskShown) → (m.Side → m.Up → m.Side → Type 0) → Client D g → Client D g → Reply → Type 0

@@ -1,5 +1,7 @@
 pub mod TaskParts
 pub mod ClientParts
+pub mod CallNames
+pub mod CallFaults
 pub mod ClientForm
 pub mod InForm
 pub mod Events
@@ -13,6 +15,7 @@ pub mod TaskTaken
 pub mod Steps
 pub mod PollOver
 pub mod ResolveOver
+pub mod Falls
 pub mod FetchOver
 pub mod PublicationOver
 pub mod Planned

@@ -126,6 +126,7 @@ pub record OnlyPublishes {D : Type 0} {g : _} (old new : Client D g) : Type 0 wh
   pub id : new.id ≡ old.id
   pub tasks : new.tasks ≡ old.tasks
   pub opened : new.txns.txns ≡ old.txns.txns
+  pub slots : new.txns.slots ≡ old.txns.slots
   pub taken : new.taken ≡ old.taken
 
 -- a task that goes on is in form

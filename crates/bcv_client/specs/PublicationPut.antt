@@ -21,6 +21,7 @@ use Rattle.bcv_model.specs.NoteRules.{Folds}
 use Rattle.bcv_publish.specs.declared.work.Work.TheVariants as work
 use Rattle.bcv_publish.specs.ManifestRead.{is_other}
 use Rattle.bcv_publisher.specs.PollStep.{seen_with}
+use Rattle.bcv_publisher.specs.NotesFit.{FoldsFit}
 use Rattle.bcv_publisher.specs.PutNotes.{PutNotes}
 use Rattle.bcv_publisher.specs.PutStep.{PutStep}
 use Rattle.bcv_publisher.specs.StepNotes.{LeavesNotes, NotesPublication}
@@ -113,7 +114,7 @@ pub record ClientPuts {D : Type 0} {g : _} (told : DiskTold) (shown : D → Disk
 -- ---- what it notes
 
 -- its intent, where nothing is pending, and what became of it, where that is known, each of which may stand where the client stands
--- with the task; a crash at any moment leaves what was kept, or that with the first of these notes, and so on
+-- with the task; a crash at any moment leaves what was kept, or that with the first of these notes, and so on, each of which fits
 pub record ClientNotes {D : Type 0} {g : _} (told : DiskTold) (shown : D → DiskShown) (store : StoreTold)
     (before after : StoreShown) (old new : Client D g) (set taken : ℕ) (t : PublishTask) : Type 0 where
   pub notes : List Note
@@ -123,3 +124,6 @@ pub record ClientNotes {D : Type 0} {g : _} (told : DiskTold) (shown : D → Dis
   pub may : store.tells → (n : ℕ) (mine : List Id16) (f : Free) → StandsWith shown old n set taken t before.log f
       → Includes mine (mine_with old n set taken t) → GrewHonestly store.alone mine before.log after.log
       → (end : Kept) × Folds old.ledger.databases.kept notes end
+  pub left : store.tells → (n : ℕ) (mine : List Id16) (f : Free) → StandsWith shown old n set taken t before.log f
+      → Includes mine (mine_with old n set taken t) → GrewHonestly store.alone mine before.log after.log
+      → FoldsFit after.log old.id old.ledger.databases.kept notes

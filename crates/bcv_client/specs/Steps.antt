@@ -20,6 +20,7 @@ use Rattle.bcv_model.specs.declared.reply.Said.{Said}
 use Rattle.bcv_publisher.specs.PutStep.{version_added}
 use Rattle.bcv_store.specs.Plans.{next_of}
 use Rattle.bcv_store.specs.StoreShown.{StoreShown, StoreTold}
+use Rattle.bcv_client.specs.CallNames.{flight_names}
 use Rattle.bcv_client.specs.ClientParts.{parts_of}
 use Rattle.bcv_client.specs.Events.{IsArmed, StandsOver, client_side, client_up}
 use Rattle.bcv_client.specs.TaskParts.{done_by}
@@ -46,13 +47,16 @@ pub record EventOver {D : Type 0} {g : _} (Goes : m.Side → m.Up → Outcome �
       × Goes (client_side moment (before.log ++ others) old f) (client_up (before.log ++ others) old) o
       (said_over (before.log ++ others) after.log r) second (client_side moment after.log new free)
 
--- a step over a log: how it grew, that the client stands over it, and what the machine says where it is an event
+-- a step over a log: how it grew, that the client stands over it, that its names and that of an intent in flight are among these, where
+-- that of an intent in flight was, and what the machine says where it is an event
 pub record RequestOver {D : Type 0} {g : _} (Goes : m.Side → m.Up → Outcome → Said → Bool → m.Side → Type 0)
     (IsEvent : Type 0) (shown : D → DiskShown) (store : StoreTold) (mine : List Id16) (before after : StoreShown)
     (old new : Client D g) (moment : ℕ) (f : Free) (r : Reply) : Type 0 where
   pub growth : RequestGrowth store.alone mine before.log after.log
   pub free : Free
   pub stands : StandsOver shown new after.log free
+  pub names : Includes mine (mine_of (parts_of new))
+  pub flight : Includes mine (flight_names f.flight) → Includes mine (flight_names free.flight)
   pub event : IsEvent → EventOver Goes store before after growth.others old new moment f free r
 
 -- so it is for each client that stands over a log which others grow honestly

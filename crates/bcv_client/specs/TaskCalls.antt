@@ -29,10 +29,11 @@ use Rattle.bcv_client.specs.TaskParts.{done_by}
 use Rattle.bcv_client.specs.declared.client.Client.{Client}
 use Rattle.bcv_client.specs.declared.job.Job.TheVariants as job
 
--- the client is the same one, and was given as many commits
+-- the client is the same one with as many slots, and was given as many commits
 pub record SameClient {D : Type 0} {g : _} (old new : Client D g) : Type 0 where
   pub id : new.id ≡ old.id
   pub taken : new.taken ≡ old.taken
+  pub slots : new.txns.slots ≡ old.txns.slots
 
 -- the reply of a publication's step says that its task goes on
 abbrev pub is_working : Reply → Bool

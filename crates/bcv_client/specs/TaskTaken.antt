@@ -69,11 +69,12 @@ is_single job.Poll = true
 is_single (job.Publish set taken t) = false
 is_single job.Resolve = true
 
--- the client is the same one, has the same tasks, and was given as many commits
+-- the client is the same one with as many slots, has the same tasks, and was given as many commits
 pub record KeepsTasks {D : Type 0} {g : _} (old new : Client D g) : Type 0 where
   pub id : new.id ≡ old.id
   pub tasks : new.tasks ≡ old.tasks
   pub taken : new.taken ≡ old.taken
+  pub slots : new.txns.slots ≡ old.txns.slots
 
 -- ---- a task that goes on
 

@@ -1,12 +1,13 @@
 //! What a client is asked, one call for every ask.
-ghost use Rattle.std.specs.Prelude.{◌≡◌, ◌≢◌, unwrap_or};
+ghost use Rattle.std.specs.Prelude.{◌≡◌, false, unwrap_or};
 ghost use Rattle.std.specs.Option.{option_map};
 ghost use Rattle.bcv_keeprule.specs.Retention.{IsKeepRule};
 ghost use Rattle.bcv_machine.specs.Reading.{Looks};
 ghost use Rattle.bcv_client.specs.AskCalls.{AskInForm, AsksOver, RepliesLook, SameWith};
+ghost use Rattle.bcv_client.specs.CallFaults.{CallCauses, DiskFailsAs, is_io_fault};
 ghost use Rattle.bcv_client.specs.Events.{Locally};
+ghost use Rattle.bcv_client.specs.Falls.{Falls};
 ghost use Rattle.bcv_client.specs.InForm.{InForm, IsClient};
-ghost use Rattle.bcv_model.specs.declared.reply.Reply.TheVariants.{NamesFault};
 
 use crate::client::Client;
 use bcv_base::{Clock, Names, Outside, Seq};
@@ -34,9 +35,16 @@ impl<D: Disk> Client<D> {
         requires rule { IsKeepRule (F.pre rule.now.rule) (F.post rule.now.rule) }
         ensures client { IsClient self.new }
         ensures same { SameWith ask self.old self.new }
+        ensures disk { DiskFailsAs D.told D.shown self.old self.new result }
+        ensures causes { CallCauses (S.shown outside.old.store) (S.shown outside.new.store)
+            (N.shown outside.old.names) (N.shown outside.new.names) (C.shown outside.old.clock)
+            (C.shown outside.new.clock) result }
         ensures asks { AsksOver D.told D.shown S.told (S.shown outside.old.store)
             (S.shown outside.new.store) (N.shown outside.old.names) (N.shown outside.new.names)
             (C.shown outside.old.clock) (C.shown outside.new.clock) self.old self.new ask result }
+        ensures falls { Falls D.told D.shown S.told (S.shown outside.old.store)
+            (S.shown outside.new.store) (N.shown outside.old.names) (N.shown outside.new.names)
+            self.old self.new }
     {
         match ask {
             Ask::Begin(db) => self.begin(alloc, &db),
@@ -83,7 +91,7 @@ impl<D: Disk> Client<D> {
         requires form { InForm self.now }
         ensures machine { Locally D.shown (λ s u t. Looks s u txn page result t) self.now self.now
             result }
-        ensures no_names { result ≢ NamesFault }
+        ensures inside { is_io_fault result ≡ false }
     {
         let page_size = page_size_of(self.opened(txn));
         look_reply(alloc, self.look(txn, page), page_size)

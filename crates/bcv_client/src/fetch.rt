@@ -1,6 +1,7 @@
 //! The step of a task that fetches a page of a transaction.
 ghost use Rattle.std.specs.Prelude.{◌≡◌};
 ghost use Rattle.bcv_client.specs.ClientForm.{FetchInForm};
+ghost use Rattle.bcv_client.specs.Falls.{FallsJob};
 ghost use Rattle.bcv_client.specs.FetchOver.{ClientFetches, FetchesStep, stepped_reply};
 ghost use Rattle.bcv_client.specs.InForm.{InForm};
 ghost use Rattle.bcv_client.specs.Steps.{EndsJob};
@@ -34,6 +35,8 @@ impl<D: Disk> Client<D> {
             self.old self.new access txn page result }
         ensures ends { EndsJob D.told D.shown S.told (S.shown store.old) (S.shown store.new)
             self.old self.new (Fetch access txn page) result }
+        ensures falls { FallsJob D.told D.shown S.told (S.shown store.old) (S.shown store.new)
+            self.old self.new }
     {
         stepped_reply(self.fetch_page(alloc, store, access, txn, page))
     }
@@ -55,6 +58,8 @@ impl<D: Disk> Client<D> {
             self.old self.new access txn page result }
         ensures ends { EndsJob D.told D.shown S.told (S.shown store.old) (S.shown store.new)
             self.old self.new (Fetch access txn page) (stepped_reply result) }
+        ensures falls { FallsJob D.told D.shown S.told (S.shown store.old) (S.shown store.new)
+            self.old self.new }
     {
         let _ = self.txns.is_full();
         let Some(base) = self.txns.opened(txn) else {

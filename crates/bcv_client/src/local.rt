@@ -3,7 +3,9 @@ ghost use Rattle.std.specs.Prelude.{◌≡◌, ◌<◌, ◌^◌, ◌+◌};
 ghost use Rattle.bcv_ledger.specs.LocalCalls.{LedgerCommits};
 ghost use Rattle.bcv_machine.specs.LocalWriting.{Commits, Reverts};
 ghost use Rattle.bcv_model.specs.Commits.{writes_of};
+ghost use Rattle.bcv_client.specs.CallFaults.{DiskFailsAs};
 ghost use Rattle.bcv_client.specs.Events.{Noting};
+ghost use Rattle.bcv_client.specs.Falls.{FallsHere};
 ghost use Rattle.bcv_client.specs.InForm.{InForm};
 ghost use Rattle.bcv_client.specs.LocalWrites.{ClientReverts, OnlyLedger, OnlyWrites, is_fine};
 
@@ -25,8 +27,10 @@ impl<D: Disk> Client<D> {
         ensures others { OnlyWrites self.old self.new }
         ensures commits { LedgerCommits D.told D.shown self.old.ledger self.new.ledger db commit
             result }
+        ensures disk { DiskFailsAs D.told D.shown self.old self.new result }
         ensures steps { D.told.tells → Noting D.shown
             (λ s u t. Commits s u db (writes_of commit) result t) self.old self.new result }
+        ensures falls { FallsHere D.told D.shown self.old self.new }
     {
         let _ = commit_size(&commit);
         self.taken += 1;
@@ -41,8 +45,10 @@ impl<D: Disk> Client<D> {
         ensures form { InForm self.new }
         ensures others { OnlyLedger self.old self.new }
         ensures reverts { ClientReverts D.told D.shown self.old self.new db result }
+        ensures disk { DiskFailsAs D.told D.shown self.old self.new result }
         ensures steps { D.told.tells → Noting D.shown (λ s u t. Reverts s u db result t)
             self.old self.new result }
+        ensures falls { FallsHere D.told D.shown self.old self.new }
     {
         let busy = self.runs_publication();
         let set = set_of(self.ledger.find(&db));

@@ -1,5 +1,6 @@
 //! The step of a poll.
 ghost use Rattle.bcv_publisher.specs.PollStep.{IsReadForm, PollStep};
+ghost use Rattle.bcv_client.specs.Falls.{FallsJob};
 ghost use Rattle.bcv_client.specs.InForm.{InForm};
 ghost use Rattle.bcv_client.specs.PollOver.{OnlyReads};
 ghost use Rattle.bcv_client.specs.Steps.{EndsJob};
@@ -26,6 +27,8 @@ impl<D: Disk> Client<D> {
             self.new.latest result }
         ensures ends { EndsJob D.told D.shown S.told (S.shown store.old) (S.shown store.new)
             self.old self.new Poll result }
+        ensures falls { FallsJob D.told D.shown S.told (S.shown store.old) (S.shown store.new)
+            self.old self.new }
     {
         let _ = self.ledger.databases.kept();
         let reply = poll_step(

@@ -2,8 +2,10 @@
 ghost use Rattle.std.specs.Prelude.{◌≡◌};
 ghost use Rattle.bcv_keeprule.specs.Retention.{IsKeepRule};
 ghost use Rattle.bcv_publisher.specs.PollStep.{IsReadForm};
+ghost use Rattle.bcv_client.specs.Falls.{FallsOver, FallsTask};
+ghost use Rattle.bcv_client.specs.CallFaults.{CallCauses, DiskFailsAs};
 ghost use Rattle.bcv_client.specs.InForm.{InForm};
-ghost use Rattle.bcv_client.specs.PublicationOver.{OnlyPublishes, StaysInForm, StepsTask};
+ghost use Rattle.bcv_client.specs.PublicationOver.{OnlyPublishes, StandsWith, StaysInForm, StepsTask, mine_with};
 ghost use Rattle.bcv_client.specs.TaskCalls.{PublishesOver, SameClient, is_working};
 ghost use Rattle.bcv_client.specs.TaskTaken.{CanStep, CanGiveBack};
 ghost use Rattle.bcv_client.specs.declared.job.Job.TheVariants.{Publish};
@@ -39,10 +41,18 @@ impl<D: Disk> Client<D> {
         ensures form { InForm self.new }
         ensures read { IsReadForm self.new.seen self.new.latest }
         ensures same { SameClient self.old self.new }
+        ensures disk { DiskFailsAs D.told D.shown self.old self.new result }
+        ensures causes { CallCauses (S.shown outside.old.store) (S.shown outside.new.store)
+            (N.shown outside.old.names) (N.shown outside.new.names) (C.shown outside.old.clock)
+            (C.shown outside.new.clock) result }
         ensures steps { PublishesOver D.told D.shown S.told (S.shown outside.old.store)
             (S.shown outside.new.store) (N.shown outside.old.names) (N.shown outside.new.names)
             (C.shown outside.old.clock) (C.shown outside.new.clock) self.old self.new number set
             taken task result }
+        ensures falls { FallsOver (StandsWith D.shown self.old number set taken task)
+            (mine_with self.old number set taken task) D.told D.shown S.told
+            (S.shown outside.old.store) (S.shown outside.new.store) (N.shown outside.old.names)
+            (N.shown outside.new.names) self.old self.new }
     {
         let mut task = task;
         let reply = self.publish_once(alloc, outside, rule, set, taken, &mut task);
@@ -72,10 +82,17 @@ impl<D: Disk> Client<D> {
         ensures read { IsReadForm self.new.seen self.new.latest }
         ensures only { OnlyPublishes self.old self.new }
         ensures goes_on { StaysInForm self.new set taken result task.new }
+        ensures disk { DiskFailsAs D.told D.shown self.old self.new result }
+        ensures causes { CallCauses (S.shown outside.old.store) (S.shown outside.new.store)
+            (N.shown outside.old.names) (N.shown outside.new.names) (C.shown outside.old.clock)
+            (C.shown outside.new.clock) result }
         ensures steps { StepsTask D.told D.shown S.told (S.shown outside.old.store)
             (S.shown outside.new.store) (N.shown outside.old.names) (N.shown outside.new.names)
             (C.shown outside.old.clock) (C.shown outside.new.clock) self.old self.new set taken
             task.old result task.new }
+        ensures falls { FallsTask D.told D.shown S.told (S.shown outside.old.store)
+            (S.shown outside.new.store) (N.shown outside.old.names) (N.shown outside.new.names)
+            self.old self.new set taken task.old }
     {
         if task.ready() {
             return self.put_task(

@@ -7,6 +7,8 @@ ghost use Rattle.bcv_ledger.specs.Begins.{WaitsFor};
 ghost use Rattle.bcv_publish.specs.ManifestRead.{is_other};
 ghost use Rattle.bcv_publisher.specs.PollStep.{IsReadForm};
 ghost use Rattle.bcv_tasks.specs.State.{IsRunning, is_ready, latest_of, pending_of, upload_of};
+ghost use Rattle.bcv_client.specs.Falls.{FallsPut};
+ghost use Rattle.bcv_client.specs.CallFaults.{CallCauses, DiskFailsAs};
 ghost use Rattle.bcv_client.specs.InForm.{InForm};
 ghost use Rattle.bcv_client.specs.PublicationOver.{OnlyPublishes, StaysInForm, StepsTask};
 ghost use Rattle.bcv_client.specs.PublicationPut.{ClientNotes, ClientPuts, PutsAt, SeesWhere, says_made, seen_made, set_uploaded, signed};
@@ -51,9 +53,14 @@ impl<D: Disk> Client<D> {
             task.new }
         ensures notes { ClientNotes D.told D.shown S.told (S.shown store.old) (S.shown store.new)
             self.old self.new set taken task.old }
+        ensures disk { DiskFailsAs D.told D.shown self.old self.new result }
+        ensures causes { (names : NamesShown) → CallCauses (S.shown store.old) (S.shown store.new)
+            names names (C.shown clock.old) (C.shown clock.new) result }
         ensures steps { (names : NamesShown) → StepsTask D.told D.shown S.told (S.shown store.old)
             (S.shown store.new) names names (C.shown clock.old) (C.shown clock.new)
             self.old self.new set taken task.old result task.new }
+        ensures falls { FallsPut D.told D.shown S.told (S.shown store.old) (S.shown store.new)
+            self.old self.new set taken task.old }
     {
         let _ = self.ledger.databases.kept();
         let _ = task.id().bytes();

@@ -3,7 +3,9 @@ ghost use Rattle.std.specs.Prelude.{◌≡◌, ℕ, false};
 ghost use Rattle.bcv_keeprule.specs.Retention.{IsKeepRule};
 ghost use Rattle.bcv_publisher.specs.PollStep.{IsReadForm};
 ghost use Rattle.bcv_tasks.specs.State.{IsRunning, is_ready};
+ghost use Rattle.bcv_client.specs.CallFaults.{CallCauses, DiskFailsAs};
 ghost use Rattle.bcv_client.specs.ClientForm.{ViewInForm};
+ghost use Rattle.bcv_client.specs.Falls.{FallsTask};
 ghost use Rattle.bcv_client.specs.InForm.{InForm};
 ghost use Rattle.bcv_client.specs.PublicationOver.{OnlyPublishes, StaysInForm, StepsTask};
 ghost use Rattle.bcv_client.specs.TaskRequests.{AsksTask, ClientWorks};
@@ -48,10 +50,17 @@ impl<D: Disk> Client<D> {
             (S.shown outside.old.store) (S.shown outside.new.store) (N.shown outside.old.names)
             (N.shown outside.new.names) (C.shown outside.old.clock) (C.shown outside.new.clock)
             self.old self.new set task.old result task.new }
+        ensures disk { DiskFailsAs D.told D.shown self.old self.new result }
+        ensures causes { CallCauses (S.shown outside.old.store) (S.shown outside.new.store)
+            (N.shown outside.old.names) (N.shown outside.new.names) (C.shown outside.old.clock)
+            (C.shown outside.new.clock) result }
         ensures steps { StepsTask D.told D.shown S.told (S.shown outside.old.store)
             (S.shown outside.new.store) (N.shown outside.old.names) (N.shown outside.new.names)
             (C.shown outside.old.clock) (C.shown outside.new.clock) self.old self.new set taken
             task.old result task.new }
+        ensures falls { FallsTask D.told D.shown S.told (S.shown outside.old.store)
+            (S.shown outside.new.store) (N.shown outside.old.names) (N.shown outside.new.names)
+            self.old self.new set taken task.old }
     {
         let store = &mut outside.store;
         let clock = &mut outside.clock;

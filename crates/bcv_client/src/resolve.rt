@@ -3,6 +3,7 @@ ghost use Rattle.std.specs.Prelude.{◌≡◌, true, false, is_some};
 ghost use Rattle.bcv_clientlog.specs.LogParts.{is_shut};
 ghost use Rattle.bcv_clientstate.specs.PartRefusals.{runs_publication};
 ghost use Rattle.bcv_client.specs.ClientParts.{parts_of};
+ghost use Rattle.bcv_client.specs.Falls.{FallsJob};
 ghost use Rattle.bcv_client.specs.InForm.{InForm};
 ghost use Rattle.bcv_client.specs.LocalWrites.{OnlyLedger};
 ghost use Rattle.bcv_client.specs.ResolveOver.{ClientResolves, is_resolved, uploaded_set};
@@ -33,6 +34,8 @@ impl<D: Disk> Client<D> {
             (S.shown store.new) self.old self.new result }
         ensures ends { EndsJob D.told D.shown S.told (S.shown store.old) (S.shown store.new)
             self.old self.new Resolve result }
+        ensures falls { FallsJob D.told D.shown S.told (S.shown store.old) (S.shown store.new)
+            self.old self.new }
     {
         let _ = self.ledger.databases.kept();
         let set = uploaded_set(&self.ledger);

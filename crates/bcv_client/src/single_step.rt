@@ -1,6 +1,10 @@
 //! The step of a task that ends with it.
 ghost use Rattle.std.specs.Prelude.{◌≡◌, true};
+ghost use Rattle.bcv_base.specs.Drawn.{NamesShown};
+ghost use Rattle.bcv_base.specs.Moments.{ClockShown};
 ghost use Rattle.bcv_publisher.specs.PollStep.{IsReadForm};
+ghost use Rattle.bcv_client.specs.Falls.{FallsJob};
+ghost use Rattle.bcv_client.specs.CallFaults.{CallCauses, DiskFailsAs};
 ghost use Rattle.bcv_client.specs.InForm.{InForm};
 ghost use Rattle.bcv_client.specs.Steps.{EndsJob};
 ghost use Rattle.bcv_client.specs.TaskTaken.{CanStep, KeepsTasks, is_single};
@@ -23,8 +27,13 @@ impl<D: Disk> Client<D> {
         ensures form { InForm self.new }
         ensures read { IsReadForm self.new.seen self.new.latest }
         ensures only { KeepsTasks self.old self.new }
+        ensures disk { DiskFailsAs D.told D.shown self.old self.new result }
+        ensures causes { (names : NamesShown) → (clock : ClockShown) → CallCauses
+            (S.shown store.old) (S.shown store.new) names names clock clock result }
         ensures ends { EndsJob D.told D.shown S.told (S.shown store.old) (S.shown store.new)
             self.old self.new job.now result }
+        ensures falls { FallsJob D.told D.shown S.told (S.shown store.old) (S.shown store.new)
+            self.old self.new }
     {
         match job {
             Job::Fetch { access, txn, page } => self.fetch(alloc, store, *access, *txn, *page),

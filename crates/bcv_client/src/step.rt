@@ -1,6 +1,8 @@
 //! The step of a task by its number.
 ghost use Rattle.std.specs.Prelude.{◌≡◌};
 ghost use Rattle.bcv_keeprule.specs.Retention.{IsKeepRule};
+ghost use Rattle.bcv_client.specs.Falls.{Falls};
+ghost use Rattle.bcv_client.specs.CallFaults.{CallCauses, DiskFailsAs};
 ghost use Rattle.bcv_client.specs.InForm.{IsClient};
 ghost use Rattle.bcv_client.specs.TaskCalls.{SameClient, StepsNumber};
 
@@ -29,10 +31,17 @@ impl<D: Disk> Client<D> {
         requires rule { IsKeepRule (F.pre rule.now.rule) (F.post rule.now.rule) }
         ensures client { IsClient self.new }
         ensures same { SameClient self.old self.new }
+        ensures disk { DiskFailsAs D.told D.shown self.old self.new result }
+        ensures causes { CallCauses (S.shown outside.old.store) (S.shown outside.new.store)
+            (N.shown outside.old.names) (N.shown outside.new.names) (C.shown outside.old.clock)
+            (C.shown outside.new.clock) result }
         ensures steps { StepsNumber D.told D.shown S.told (S.shown outside.old.store)
             (S.shown outside.new.store) (N.shown outside.old.names) (N.shown outside.new.names)
             (C.shown outside.old.clock) (C.shown outside.new.clock) self.old self.new number
             result }
+        ensures falls { Falls D.told D.shown S.told (S.shown outside.old.store)
+            (S.shown outside.new.store) (N.shown outside.old.names) (N.shown outside.new.names)
+            self.old self.new }
     {
         let number = number as u64;
         let job = match self.take_task(number) {

@@ -1,5 +1,6 @@
 mod Grown
 pub mod Moments
+pub mod NotesFit
 mod PollEnds
 mod PutAfter
 mod PutAnswers

@@ -1,5 +1,5 @@
 -- The client after a step at a put, at each of its exits.
-use Rattle.std.proofs.Common.{◌≡◌, ◌∙◌, ℕ, Bool, true, false, List, [], ◌∷◌, ◌++◌, append-nil, length, Option, Some, None, MatchOption, refl, sym, ap, subst}
+use Rattle.std.proofs.Common.{◌≡◌, ◌∙◌, ℕ, Bool, true, false, List, [], ◌∷◌, ◌++◌, append-nil, inl, length, Option, Some, None, MatchOption, refl, sym, ap, subst}
 use Rattle.bcv_base.specs.declared.id.Id16.{Id16}
 use Rattle.bcv_base.specs.declared.log.Entry.{Entry}
 use Rattle.bcv_base.specs.declared.manifest.Manifest.{Manifest}
@@ -8,7 +8,7 @@ use Rattle.bcv_base.specs.History.{history_of, last_of}
 use Rattle.bcv_base.specs.Image.{Writes}
 use Rattle.bcv_cache.specs.Entry as cache
 use Rattle.bcv_clientlog.specs.LogParts.{is_shut}
-use Rattle.bcv_clientlaws.specs.OtherParts.{Includes}
+use Rattle.bcv_clientlaws.specs.OtherParts.{FitsKept, Includes}
 use Rattle.bcv_databases.specs.declared.known.Known.{Known}
 use Rattle.bcv_databases.specs.Sound.{AreDatabases}
 use Rattle.bcv_dbmap.specs.Growth.{AreLawful}
@@ -43,9 +43,11 @@ use Rattle.bcv_publication.specs.PutSides.{Tried}
 use Rattle.bcv_publication.specs.TaskSides.{MayStep, job_of, seen_task, with_job}
 use Rattle.bcv_publication.proofs.TaskSides.{task_is_tried}
 use Rattle.bcv_publish.specs.ManifestRead.{is_other}
+use Rattle.bcv_publisher.specs.NotesFit.{FoldsFit}
 use Rattle.bcv_publisher.specs.PutNotes.{FitsAfter, FitsOn, PublishedIsKept}
 use Rattle.bcv_publisher.specs.WorkStep.{seen_before}
 use Rattle.bcv_publisher.proofs.Grown.{fits_with_ledger, same_ledger}
+use Rattle.bcv_publisher.proofs.NotesFit.{begun_fits, client_kept, kept_pending, noted_kept, void_kept}
 use Rattle.bcv_publisher.proofs.PutEnds.{was_published, was_refused}
 use Rattle.bcv_publisher.proofs.PutFits.{alone_fits, done_ledger, grown_may, is_number, made_is_alike, put_leaves_fit, void_ledger, waits}
 use Rattle.bcv_publisher.proofs.StepMoments.{begun_fold, begun_notes}
@@ -81,7 +83,17 @@ module _ {D : Type 0} {g : _} (store : StoreTold) (before : StoreShown) (old : L
   parts_are new a j ks closed kept known =
       ap (λ (c : LedgerParts). with_ledger c p) (same_ledger (is_shut new.log) a new.databases.kept j new.databases.known ks closed kept known)
 
+  -- whichever of its notes a crash leaves fits, where what is kept once the intent stands fits with those of its end
+  left_fits : (log : List Entry) (ys : List Note) → FoldsFit log p.id k ys → FoldsFit log p.id old.databases.kept (begun_notes old.databases.kept.pending x ys)
+  left_fits log ys fits = begun_fits log p.id old.databases.kept x old.databases.kept.pending ys refl may.waits fits
+
   -- ---- the intent did not come to stand
+
+  was_kept : FitsKept before.log p.id old.databases.kept []
+  was_kept = client_kept before.log entries here (alone_fits before.log [] [] [] here entries n view t moment may quiet tt)
+
+  begun_kept : FitsKept before.log p.id k []
+  begun_kept = kept_pending before.log p.id old.databases.kept (Some x) was_kept (inl (may_put mine before.log here entries n view t all may).fresh)
 
   before_fits : (new : Ledger D g) (fault : Reply) → ShutAfter (Some fault) (is_shut new.log) → IsNoteFault (Some fault) → new.databases.kept ≡ old.databases.kept
       → new.databases.known ≡ old.databases.known → Fits (with_ledger (parts_in new) p) entries before.log
@@ -120,6 +132,7 @@ module _ {D : Type 0} {g : _} (store : StoreTold) (before : StoreShown) (old : L
     job = fault_on new before.log fault t begins.answers;
     published = fault_published before.log fault t begins.answers;
     may = (k, may_fold [] k refl);
+    left = left_fits before.log [] begun_kept;
   }
 
   -- nothing was done
@@ -129,6 +142,7 @@ module _ {D : Type 0} {g : _} (store : StoreTold) (before : StoreShown) (old : L
     job = tt;
     published = tt;
     may = (old.databases.kept, refl);
+    left = was_kept;
   }
 
   -- ---- the put was made
@@ -152,6 +166,9 @@ module _ {D : Type 0} {g : _} (store : StoreTold) (before : StoreShown) (old : L
     fits_then =
         put_leaves_fit before.log others own after.log here entries n view t moment may quiet lawful puts.manifest puts.published puts.growth.grown puts.growth.sound puts.brings puts.appends
 
+    kept_then : FitsKept after.log p.id k []
+    kept_then = client_kept after.log entries waiting_parts fits_then
+
     -- whatever was noted after it, or not
     parts_then : (new : Ledger D g) (a : Bool) → is_shut new.log ≡ a → new.databases.kept ≡ mid.databases.kept → new.databases.known ≡ mid.databases.known
         → with_ledger (parts_in new) p ≡ record waiting_parts { closed = a }
@@ -165,7 +182,8 @@ module _ {D : Type 0} {g : _} (store : StoreTold) (before : StoreShown) (old : L
     -- nothing was noted, and the task has ended
     pub ended_after : (r : Reply) → FitsOn mine p.id mid.databases.kept after.log view r u → PublishedIsKept after.log r u
         → FitsAfter mine old mid after.log p entries view (begun_notes old.databases.kept.pending x []) r u
-    ended_after r job published = record { fits = mid_fits mid begins.shut refl refl; job = job; published = published; may = (k, may_fold [] k refl) }
+    ended_after r job published =
+        record { fits = mid_fits mid begins.shut refl refl; job = job; published = published; may = (k, may_fold [] k refl); left = left_fits after.log [] kept_then }
 
     -- the task goes on
     pub refused_after : said ≡ answer.Refused → IsRunning u
@@ -212,14 +230,23 @@ module _ {D : Type 0} {g : _} (store : StoreTold) (before : StoreShown) (old : L
     may_note : (z : Note) → MayStand k z → (end : Kept) × Folds old.databases.kept (begun_notes old.databases.kept.pending x (z ∷ [])) end
     may_note z stands = (after_note k z, may_fold (z ∷ []) (after_note k z) (stands, refl))
 
+    -- the end of which a crash leaves the note
+    ends_left : (z : Note) → FitsKept after.log p.id (after_note k z) [] → FoldsFit after.log p.id old.databases.kept (begun_notes old.databases.kept.pending x (z ∷ []))
+    ends_left z noted = left_fits after.log (z ∷ []) (kept_then, noted)
+
     pub fault_after : (new : Ledger D g) (z : Note) (known : List Known) (fault : Reply) → NoteEnds told shown mid new z known (Some fault) → MayStand k z
+        → FitsKept after.log p.id (after_note k z) []
         → FitsAfter mine old new after.log p entries view (begun_notes old.databases.kept.pending x (z ∷ [])) fault u
-    fault_after new z known fault ends stands = record {
+    fault_after new z known fault ends stands noted = record {
       fits = fault_fits new z known fault ends;
       job = fault_on new after.log fault u ends.answers;
       published = fault_published after.log fault u ends.answers;
       may = may_note z stands;
+      left = ends_left z noted;
     }
+
+    pub left_void : FitsKept after.log p.id (after_note k (note.Void x.id)) []
+    left_void = void_kept after.log p.id x.id k kept_then
 
     pub may_void : MayStand k (note.Void x.id)
     may_void = may_end
@@ -238,6 +265,7 @@ module _ {D : Type 0} {g : _} (store : StoreTold) (before : StoreShown) (old : L
           job = job;
           published = published;
           may = may_note (note.Void x.id) may_end;
+          left = ends_left (note.Void x.id) left_void;
         }
 
     module _ (number : ℕ) (is : said ≡ answer.Published number) where
@@ -261,23 +289,31 @@ module _ {D : Type 0} {g : _} (store : StoreTold) (before : StoreShown) (old : L
             published_is,
       )
 
+      -- what is kept and known once done is noted
+      made_ledger : FitsLedger (history_of after.log) p.id (after_note k (note.Done x.id number)) (known_of (after_note k (note.Done x.id number)) puts.manifest)
+      made_ledger =
+          done_ledger before.log others own after.log here entries n view t moment may quiet lawful puts.manifest puts.published puts.growth.grown puts.growth.sound puts.brings puts.appends
+          number published_is
+
+      pub left_done : FitsKept after.log p.id (after_note k (note.Done x.id number)) []
+      left_done =
+          noted_kept after.log p.id k (note.Done x.id number) (known_of (after_note k (note.Done x.id number)) puts.manifest) kept_then.ordered may_done made_ledger
+
       pub done_after : (new : Ledger D g) (found : Manifest) (r : Reply) → found ≡ puts.manifest → AreDatabases new.databases
           → NoteEnds told shown mid new (note.Done x.id number) (known_of (after_note mid.databases.kept (note.Done x.id number)) found) None
           → FitsOn mine p.id new.databases.kept after.log view r u → PublishedIsKept after.log r u
           → FitsAfter mine old new after.log p entries view (begun_notes old.databases.kept.pending x (note.Done x.id number ∷ [])) r u
       done_after new found r same holds ends job published =
           let j : Kept = after_note k (note.Done x.id number) in
-          let ledger : FitsLedger (history_of after.log) p.id j (known_of j puts.manifest) =
-          done_ledger before.log others own after.log here entries n view t moment may quiet lawful puts.manifest puts.published puts.growth.grown puts.growth.sound puts.brings puts.appends
-          number published_is in
           let known_is : new.databases.known ≡ known_of j puts.manifest =
           ends.knows ∙ ap (λ (i : Kept). known_of (after_note i (note.Done x.id number)) found) begins.kept ∙ ap (known_of j) same in
           record {
             fits =
                 noted_fits new holds ends.shut
                 (subst (λ (i : Kept). FitsLedger (history_of after.log) p.id i new.databases.known) (sym (ends.kept ∙ ap (λ (i : Kept). after_note i (note.Done x.id number)) begins.kept))
-                (subst (λ (ks : List Known). FitsLedger (history_of after.log) p.id j ks) (sym known_is) ledger));
+                (subst (λ (ks : List Known). FitsLedger (history_of after.log) p.id j ks) (sym known_is) made_ledger));
             job = job;
             published = published;
             may = may_note (note.Done x.id number) may_done;
+            left = ends_left (note.Done x.id number) left_done;
           }

@@ -40,7 +40,7 @@ use Rattle.bcv_publisher.specs.PutStep.{MayPutManifest}
 use Rattle.bcv_publisher.specs.Settles.{Settles, known_made, reply_by}
 use Rattle.bcv_publisher.specs.StepNotes.{EndsOnce, LeavesNotes, NotesPublication}
 use Rattle.bcv_publisher.proofs.Moments.{leaves_kept}
-use Rattle.bcv_publisher.proofs.PutAfter.{done_after, ended_after, fault_after, is_alike, is_kept, may_done, may_void, refused_after, unbegun_after, untouched_after, void_after}
+use Rattle.bcv_publisher.proofs.PutAfter.{done_after, ended_after, fault_after, is_alike, is_kept, left_done, left_void, may_done, may_void, refused_after, unbegun_after, untouched_after, void_after}
 use Rattle.bcv_publisher.proofs.PutEnds.{id_with, latest_with}
 use Rattle.bcv_publisher.proofs.StepMoments.{are_of_publication, begun_notes, both_moments, end_moment, intent_moment}
 use Rattle.bcv_publisher.proofs.TaskPuts.{may_put}
@@ -140,7 +140,8 @@ module _ {D : Type 0} {g : _} (told : DiskTold) (shown : D → DiskShown) (store
     voids said puts new holds r on published (Some fault) ends =
         put_noted said puts new (note.Void x.id ∷ []) fault refl (end_moment told shown mid new (note.Void x.id) mid.databases.known (Some fault) ends begins.shut) (λ p entries n view mine long may quiet begun told_puts.
         fault_after store before old t moment ready is_open p entries n view mine may.own may.step quiet told shown after mid begun u said puts.leaves told_puts new (note.Void x.id) mid.databases.known fault ends
-        (may_void store before old t moment ready is_open p entries n view mine may.own may.step quiet told shown after mid begun u said puts.leaves told_puts))
+        (may_void store before old t moment ready is_open p entries n view mine may.own may.step quiet told shown after mid begun u said puts.leaves told_puts)
+        (left_void store before old t moment ready is_open p entries n view mine may.own may.step quiet told shown after mid begun u said puts.leaves told_puts))
 
     -- done is noted
     module _ (number : ℕ) (puts : PutsTask store before after t moment (answer.Published number) u) (new : Ledger D g) (holds : AreDatabases new.databases) (latest : Latest)
@@ -178,7 +179,8 @@ module _ {D : Type 0} {g : _} (told : DiskTold) (shown : D → DiskShown) (store
           (λ p entries n view mine long may quiet begun told_puts.
           fault_after store before old t moment ready is_open p entries n view mine may.own may.step quiet told shown after mid begun u (answer.Published number) puts.leaves told_puts new done
           known fault ends
-          (may_done store before old t moment ready is_open p entries n view mine may.own may.step quiet told shown after mid begun u (answer.Published number) puts.leaves told_puts number refl))
+          (may_done store before old t moment ready is_open p entries n view mine may.own may.step quiet told shown after mid begun u (answer.Published number) puts.leaves told_puts number refl)
+          (left_done store before old t moment ready is_open p entries n view mine may.own may.step quiet told shown after mid begun u (answer.Published number) puts.leaves told_puts number refl))
 
     -- ---- every answer
 

@@ -46,7 +46,7 @@ use Rattle.bcv_clientstate.specs.SeenContainer.{HasBase}
 use Rattle.bcv_clientstate.specs.SeenKept.{seen_note}
 use Rattle.bcv_clientstate.proofs.ResolveSides.{at_is_found, fresh_is_not_found}
 use Rattle.bcv_clientlaws.proofs.Appended.{seen_later}
-use Rattle.bcv_clientlaws.specs.OtherParts.{Includes}
+use Rattle.bcv_clientlaws.specs.OtherParts.{FitsKept, Includes}
 use Rattle.bcv_clientlaws.specs.Resolves.{IsResolved, resolved_at}
 use Rattle.bcv_clientlaws.proofs.ManifestsRead.{rules_of, seen_is_seen_in}
 use Rattle.bcv_clientlaws.proofs.OtherParts.{shut_fits}
@@ -57,9 +57,11 @@ use Rattle.bcv_ledger.specs.FitsLedger.{FitsLedger, IsUploadedAt}
 use Rattle.bcv_ledger.specs.LedgerNotes.{parts_in}
 use Rattle.bcv_ledger.specs.NoteEnds.{EndGoes, IsNoteFault, NoteEnds, ShutAfter, known_found}
 use Rattle.bcv_ledger.proofs.FitsLedger.{resolved_keeps_fit, void_keeps_fit}
+use Rattle.bcv_publisher.specs.NotesFit.{FoldsFit}
 use Rattle.bcv_publisher.specs.PutStep.{Armed}
 use Rattle.bcv_publisher.specs.ResolveStep.{ResolveSays}
 use Rattle.bcv_publisher.proofs.Grown.{fits_grown, fits_with_ledger, follows_seen, grown_by_others, ledger_of_fits, same_ledger}
+use Rattle.bcv_publisher.proofs.NotesFit.{client_kept, noted_kept, void_kept}
 
 -- ---- what is seen
 
@@ -122,17 +124,22 @@ module _ {D : Type 0} {g : _} (told : DiskTold) (shown : D → DiskShown) (store
     is_resolved : IsResolved after.log entries here x s finds.outcome answer
     is_resolved = record { sound = finds.growth.sound; fits = here_fits; quiet = quiet; pending = pending; is_id = is_id; ends = finds.ends }
 
-    says : (notes : List Note) (r : Reply) → (end : Kept) × Folds old.databases.kept notes end → Fits next entries after.log
+    -- what was kept still fits
+    kept_now : FitsKept after.log p.id old.databases.kept []
+    kept_now = client_kept after.log entries here here_fits
+
+    says : (notes : List Note) (r : Reply) → (end : Kept) × Folds old.databases.kept notes end → FoldsFit after.log p.id old.databases.kept notes → Fits next entries after.log
         → ((f : Free) → Journaled shown old.log old.databases.kept f → Armed r f
         → (free : Free) × Journaled shown new.log new.databases.kept free
         × (r ≢ reply.NoMemory → (moment : ℕ) → Resolves (side_of moment past here f) (seen_up past here) finds.outcome r (side_of moment past next free)))
         → ResolveSays shown store mine before after old new notes p entries r
-    says notes r may next_fits steps = record {
+    says notes r may left next_fits steps = record {
       growth = finds.growth;
       no_own = finds.no_own;
       request = finds.outcome;
       planned = finds.next;
       may = may;
+      left = left;
       fits = next_fits;
       steps = steps;
     }
@@ -164,11 +171,11 @@ module _ {D : Type 0} {g : _} (told : DiskTold) (shown : D → DiskShown) (store
 
     -- a note that failed, which may stand
     failed : (z : Note) (y : m.Note) (known : List Known) (fault : Reply) → MayStand old.databases.kept z → seen_note old.databases.kept z ≡ Some y
-        → NoteEnds told shown old new z known (Some fault) → fault ≢ reply.JournalFull
+        → FitsKept after.log p.id (after_note old.databases.kept z) [] → NoteEnds told shown old new z known (Some fault) → fault ≢ reply.JournalFull
         → ((f : Free) → f.failing ≡ true → (moment : ℕ) → Resolves (side_of moment past here f) (seen_up past here) finds.outcome reply.DiskFault (side_of moment past (shut here) (free_failed (note_size z) y f)))
         → ResolveSays shown store mine before after old new (z ∷ []) p entries fault
-    failed z y known fault may is ends room machine =
-        says (z ∷ []) fault (after_note old.databases.kept z, (may, refl)) (fit fault ends.shut ends.answers room) (λ f journaled armed. step fault ends.shut room f armed (ends.goes tells may f journaled y is))
+    failed z y known fault may is noted ends room machine =
+        says (z ∷ []) fault (after_note old.databases.kept z, (may, refl)) (kept_now, noted) (fit fault ends.shut ends.answers room) (λ f journaled armed. step fault ends.shut room f armed (ends.goes tells may f journaled y is))
       where
         same : (a : Bool) → is_shut new.log ≡ a → next ≡ record here { closed = a }
         same a closed = next_is a old.databases.kept old.databases.known closed ends.kept ends.knows
@@ -193,7 +200,7 @@ module _ {D : Type 0} {g : _} (told : DiskTold) (shown : D → DiskShown) (store
         → ResolveSays shown store mine before after old new [] p entries r
     unnoted r same machine =
         let is : next ≡ here = ap (λ (l : Ledger D g). with_ledger (parts_in l) p) same in
-        says [] r (old.databases.kept, refl) (stays_fit is) (λ f journaled armed. (
+        says [] r (old.databases.kept, refl) kept_now (stays_fit is) (λ f journaled armed. (
           f,
           subst (λ (l : Ledger D g). Journaled shown l.log l.databases.kept f) (sym same) journaled,
           λ memory moment. resolves r here f f moment is (machine memory moment f),
@@ -211,23 +218,30 @@ module _ {D : Type 0} {g : _} (told : DiskTold) (shown : D → DiskShown) (store
         (may_finish after.log entries here x finds.growth.sound found_is.fits pending is_id n
         (own_number (history_of after.log) p.id x.id n finds.growth.sound finds.ends.1)).may
 
+    -- what is kept and known once done is noted
+    found_ledger : FitsLedger (history_of after.log) p.id (after_note old.databases.kept (note.Done x.id n)) (known_found old.databases.kept x.id n old.databases.known)
+    found_ledger =
+        let at : IsUploadedAt (history_of after.log) n old.databases.kept.pending =
+        subst (λ (o : Option PendingPub). IsUploadedAt (history_of after.log) n o) (sym pending)
+        (uploaded_at (history_of after.log) p.id x n finds.growth.sound finds.ends.1
+        (subst (λ (o : Option PendingPub). IfSome o (FitsPending (history_of after.log) p.id)) pending found_is.fits.pending)) in
+        resolved_keeps_fit (history_of after.log) p.id old.databases.kept old.databases.known x.id n
+        (ledger_of_fits after.log here entries found_is.fits) at
+
+    left_done : FitsKept after.log p.id (after_note old.databases.kept (note.Done x.id n)) []
+    left_done =
+        noted_kept after.log p.id old.databases.kept (note.Done x.id n) (known_found old.databases.kept x.id n old.databases.known) found_is.fits.ordered may_done found_ledger
+
     pub found_says : AreDatabases new.databases → NoteEnds told shown old new (note.Done x.id n) (known_found old.databases.kept x.id n old.databases.known) None
         → ResolveSays shown store mine before after old new (note.Done x.id n ∷ []) p entries (reply.Resolved n)
     found_says holds ends =
         let k : Kept = after_note old.databases.kept (note.Done x.id n) in
         let ks : List Known = known_found old.databases.kept x.id n old.databases.known in
-        let at : IsUploadedAt (history_of after.log) n old.databases.kept.pending =
-        subst (λ (o : Option PendingPub). IsUploadedAt (history_of after.log) n o) (sym pending)
-        (uploaded_at (history_of after.log) p.id x n finds.growth.sound finds.ends.1
-        (subst (λ (o : Option PendingPub). IfSome o (FitsPending (history_of after.log) p.id)) pending found_is.fits.pending)) in
-        let ledger : FitsLedger (history_of after.log) p.id k ks =
-        resolved_keeps_fit (history_of after.log) p.id old.databases.kept old.databases.known x.id n
-        (ledger_of_fits after.log here entries found_is.fits) at in
         let ledger_now : FitsLedger (history_of after.log) p.id new.databases.kept new.databases.known =
         subst (λ (y : Kept). FitsLedger (history_of after.log) p.id y new.databases.known) (sym ends.kept)
-        (subst (λ (y : List Known). FitsLedger (history_of after.log) p.id k y) (sym ends.knows) ledger) in
+        (subst (λ (y : List Known). FitsLedger (history_of after.log) p.id k y) (sym ends.knows) found_ledger) in
         says (resolved.At n) finds
-        (note.Done x.id n ∷ []) (reply.Resolved n) (k, (may_done, refl))
+        (note.Done x.id n ∷ []) (reply.Resolved n) (k, (may_done, refl)) (kept_now (resolved.At n) finds, left_done)
         (ends_fit (resolved.At n) finds holds ends.shut ledger_now)
         (λ f journaled armed. (
           free_noted (note_size (note.Done x.id n)) f,
@@ -244,7 +258,7 @@ module _ {D : Type 0} {g : _} (told : DiskTold) (shown : D → DiskShown) (store
         → ResolveSays shown store mine before after old new (note.Done x.id n ∷ []) p entries fault
     found_fails fault ends room =
         failed (resolved.At n) finds (note.Done x.id n) (m.Finishing n)
-        (known_found old.databases.kept x.id n old.databases.known) fault may_done refl ends room
+        (known_found old.databases.kept x.id n old.databases.known) fault may_done refl left_done ends room
         (λ f failing moment. resolved_is_not_noted moment after.log entries here f x n s finds.outcome found_is failing)
 
   -- no version has it
@@ -254,6 +268,9 @@ module _ {D : Type 0} {g : _} (told : DiskTold) (shown : D → DiskShown) (store
 
     may_end : MayStand old.databases.kept (note.Void x.id)
     may_end = (may_void after.log entries here x finds.growth.sound none_is.fits pending is_id).may
+
+    left_void : FitsKept after.log p.id (after_note old.databases.kept (note.Void x.id)) []
+    left_void = void_kept after.log p.id x.id old.databases.kept (kept_now resolved.Voided finds)
 
     pub voided_says : AreDatabases new.databases → NoteEnds told shown old new (note.Void x.id) old.databases.known None
         → ResolveSays shown store mine before after old new (note.Void x.id ∷ []) p entries reply.Voided
@@ -266,7 +283,7 @@ module _ {D : Type 0} {g : _} (told : DiskTold) (shown : D → DiskShown) (store
         subst (λ (y : Kept). FitsLedger (history_of after.log) p.id y new.databases.known) (sym ends.kept)
         (subst (λ (y : List Known). FitsLedger (history_of after.log) p.id k y) (sym ends.knows) ledger) in
         says resolved.Voided finds
-        (note.Void x.id ∷ []) reply.Voided (k, (may_end, refl))
+        (note.Void x.id ∷ []) reply.Voided (k, (may_end, refl)) (kept_now resolved.Voided finds, left_void)
         (ends_fit resolved.Voided finds holds ends.shut ledger_now)
         (λ f journaled armed. (
           free_noted (note_size (note.Void x.id)) f,
@@ -283,5 +300,5 @@ module _ {D : Type 0} {g : _} (told : DiskTold) (shown : D → DiskShown) (store
         → ResolveSays shown store mine before after old new (note.Void x.id ∷ []) p entries fault
     voided_fails fault ends room =
         failed resolved.Voided finds (note.Void x.id) m.Voiding
-        old.databases.known fault may_end refl ends room
+        old.databases.known fault may_end refl left_void ends room
         (λ f failing moment. void_is_not_noted moment after.log entries here f x s finds.outcome none_is failing)

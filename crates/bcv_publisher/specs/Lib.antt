@@ -1,3 +1,4 @@
+pub mod NotesFit
 pub mod PollStep
 pub mod PutNotes
 pub mod PutStep

@@ -24,6 +24,7 @@ use Rattle.bcv_clientstate.specs.Stages.{IsStagedJob}
 use Rattle.bcv_ledger.specs.declared.ledger.Ledger.{Ledger}
 use Rattle.bcv_ledger.specs.LedgerNotes.{parts_in}
 use Rattle.bcv_publication.specs.TaskSides.{job_of}
+use Rattle.bcv_publisher.specs.NotesFit.{FoldsFit}
 use Rattle.bcv_publisher.specs.PutStep.{MayPutManifest}
 use Rattle.bcv_publisher.specs.StepNotes.{LeavesNotes, NotesPublication}
 use Rattle.bcv_publisher.specs.WorkStep.{seen_before}
@@ -43,13 +44,15 @@ PublishedIsKept log (reply.Done n) u = MatchOption (latest_of u) ⊥ (IsKept log
 PublishedIsKept log (reply.Cleaned deleted more) u = MatchOption (latest_of u) ⊥ (IsKept log)
 PublishedIsKept log _ u = Unit {0}
 
--- the client without the task fits the log, a task that goes on fits, what was published is there, and what was noted could stand
+-- the client without the task fits the log, a task that goes on fits, what was published is there, what was noted could stand, and
+-- whichever of it a crash leaves fits
 pub record FitsAfter {D : Type 0} {g : _} (mine : List Id16) (old new : Ledger D g) (log : List Entry) (p : Parts)
     (entries : List cache.Entry) (view : List Writes) (notes : List Note) (r : Reply) (u : PublishTask) : Type 0 where
   pub fits : Fits (with_ledger (parts_in new) p) entries log
   pub job : FitsOn mine p.id new.databases.kept log view r u
   pub published : PublishedIsKept log r u
   pub may : (end : Kept) × Folds old.databases.kept notes end
+  pub left : FoldsFit log p.id old.databases.kept notes
 
 -- so it is for each client that stands over a log which others grow honestly, while no other task of it publishes
 abbrev pub PutKeepsFit : {D : Type 0} {g : _} → StoreTold → StoreShown → StoreShown → Ledger D g → Ledger D g → Seen → ℕ

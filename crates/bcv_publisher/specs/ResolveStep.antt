@@ -37,6 +37,7 @@ use Rattle.bcv_clientlaws.specs.OtherParts.{Includes}
 use Rattle.bcv_ledger.specs.declared.ledger.Ledger.{Ledger}
 use Rattle.bcv_ledger.specs.LedgerNotes.{parts_in}
 use Rattle.bcv_ledger.specs.NoteEnds.{NoteEnds, ShutAfter, known_found}
+use Rattle.bcv_publisher.specs.NotesFit.{FoldsFit}
 use Rattle.bcv_publisher.specs.PutStep.{Armed, Keeps}
 use Rattle.bcv_publisher.specs.Settles.{reply_by}
 use Rattle.bcv_publisher.specs.StepNotes.{EndsOnce, LeavesNotes}
@@ -56,8 +57,8 @@ ResolveLeaves old new id _ = ⊥
 
 -- ---- over a store and a disk that tell
 
--- the step over a sound log: how the log grew, which outcome its request had, that its note may stand, that the client fits
--- afterwards, and what the machine says, from the side over what others appended to the side over it
+-- the step over a sound log: how the log grew, which outcome its request had, that its note may stand, that whichever of it a
+-- crash leaves fits, that the client fits afterwards, and what the machine says, from the side over what others appended to the side over it
 pub record ResolveSays {D : Type 0} {g : _} (shown : D → DiskShown) (store : StoreTold) (mine : List Id16)
     (before after : StoreShown) (old new : Ledger D g) (notes : List Note) (p : Parts) (entries : List cache.Entry)
     (r : Reply) : Type 0 where
@@ -66,6 +67,7 @@ pub record ResolveSays {D : Type 0} {g : _} (shown : D → DiskShown) (store : S
   pub request : Outcome
   pub planned : store.plans → request ≡ next_of before.plan
   pub may : (end : Kept) × Folds old.databases.kept notes end
+  pub left : FoldsFit after.log p.id old.databases.kept notes
   pub fits : Fits (with_ledger (parts_in new) p) entries after.log
   pub steps : (f : Free) → Journaled shown old.log old.databases.kept f → Armed r f
       → (free : Free) × Journaled shown new.log new.databases.kept free

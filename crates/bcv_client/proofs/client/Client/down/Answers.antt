@@ -1,7 +1,6 @@
 use Rattle.bcv_client.proofs.CameUp.{leaves_down}
-use Rattle.bcv_risen.proofs.StaysDown.{crash_leaves_down}
 use Rattle.bcv_client.proofs.client.Client.down.Goals as goal
 
 pub returns-clause-down : goal.returns-clause-down
 returns-clause-down g c =
-    leaves_down g.D.Disk.shown c.args.self c.down.result c.down.ensures.disk (crash_leaves_down g.D.Disk.shown c.args.self.ledger.log c.down.result)
+    leaves_down g.D.Disk.shown c.args.self c.down.result c.down.ensures.disk

@@ -20,3 +20,6 @@ pub returns-clause-ends : goal.returns-clause-ends
 returns-clause-ends g c =
     subst (λ (r : Reply). EndsJob g.D.Disk.told g.D.Disk.shown g.S.Store.told (g.S.Store.shown c.args.store.now) (g.S.Store.shown c.fetch_page.new.store) c.args.self.now c.fetch_page.new.self
     (Fetch c.args.access c.args.txn c.args.page) r) (sym c.stepped_reply.ensures) c.fetch_page.ensures.ends
+
+pub returns-clause-falls : goal.returns-clause-falls
+returns-clause-falls g c = c.fetch_page.ensures.falls

@@ -13,6 +13,7 @@ use Rattle.bcv_client.specs.declared.job.Job.TheVariants.{Fetch}
 use Rattle.bcv_client.proofs.FetchOver.{block_of_base, fetch_ends, has_base, has_pages, step_stays}
 use Rattle.bcv_client.proofs.PagesFound.{can_read, pages_are}
 use Rattle.bcv_client.proofs.TxnForms.{form_stays}
+use Rattle.bcv_client.proofs.FallsSteps.{others_fall}
 use Rattle.bcv_client.proofs.client.Client.fetch_page.Goals as goal
 
 pub unreachable-requires : goal.unreachable-requires
@@ -119,3 +120,15 @@ returns-in-ToHold-clause-ends g c =
     (fetch_ends g.D.Disk.told g.D.Disk.shown g.S.Store.told (g.S.Store.shown c.args.store.now) (g.S.Store.shown c.hold_step.new.store) old new access.ToHold c.args.txn c.args.page c.in-Some-pages_of.pages.now c.hold_step.result
     (record { reading = record { id = refl; ledger = refl; seen = refl; latest = refl; taken = refl }; tasks = refl })
     c.requires.form c.requires.page found c.is_full.ensures.are_open c.hold_step.ensures.steps c.hold_step.ensures.says c.hold_step.ensures.sound c.hold_step.ensures.fit)
+
+pub returns-in-ToRead-clause-falls : goal.returns-in-ToRead-clause-falls
+returns-in-ToRead-clause-falls g c =
+    let old = c.args.self.now in
+    others_fall g.D.Disk.told g.D.Disk.shown g.S.Store.told (g.S.Store.shown c.args.store.now) (g.S.Store.shown c.read_step.new.store) old (record old { txns = c.read_step.new.self }) refl refl
+    (λ tells mine f stands all honest. let s = c.read_step.ensures.sound tells mine stands.sound honest in (s.growth, s.no_own))
+
+pub returns-in-ToHold-clause-falls : goal.returns-in-ToHold-clause-falls
+returns-in-ToHold-clause-falls g c =
+    let old = c.args.self.now in
+    others_fall g.D.Disk.told g.D.Disk.shown g.S.Store.told (g.S.Store.shown c.args.store.now) (g.S.Store.shown c.hold_step.new.store) old (record old { txns = c.hold_step.new.self }) refl refl
+    (λ tells mine f stands all honest. let s = c.hold_step.ensures.sound tells mine stands.sound honest in (s.growth, s.no_own))

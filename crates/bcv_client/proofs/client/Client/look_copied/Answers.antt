@@ -1,4 +1,5 @@
-use Rattle.bcv_client.proofs.LooksCopied.{looks_copied, no_names_fault}
+use Rattle.bcv_client.proofs.AskReplies.{look_inside}
+use Rattle.bcv_client.proofs.LooksCopied.{looks_copied}
 use Rattle.bcv_client.proofs.client.Client.look_copied.Goals as goal
 
 pub opened-requires : goal.opened-requires
@@ -12,5 +13,5 @@ returns-clause-machine g c =
     looks_copied g.D.Disk.shown c.args.self.now c.args.txn c.args.page c.page_size_of-page_size.result c.look.result c.look_reply.result c.opened.result c.page_size_of-page_size.ensures c.opened.ensures c.look_reply.ensures
     c.look.ensures
 
-pub returns-clause-no_names : goal.returns-clause-no_names
-returns-clause-no_names g c = no_names_fault c.page_size_of-page_size.result c.look.result c.look_reply.result c.look_reply.ensures
+pub returns-clause-inside : goal.returns-clause-inside
+returns-clause-inside g c = look_inside c.page_size_of-page_size.result c.look.result c.look_reply.result c.look_reply.ensures

@@ -1,6 +1,7 @@
 use Rattle.std.proofs.Common.{refl}
 use Rattle.bcv_client.proofs.PollForm.{form_polled}
 use Rattle.bcv_client.proofs.PollOver.{poll_ends}
+use Rattle.bcv_client.proofs.FallsSteps.{poll_falls}
 use Rattle.bcv_client.proofs.client.Client.poll.Goals as goal
 
 pub poll_step-reply-requires : goal.poll_step-reply-requires
@@ -26,3 +27,9 @@ pub returns-clause-ends : goal.returns-clause-ends
 returns-clause-ends g c =
     poll_ends g.D.Disk.told g.D.Disk.shown g.S.Store.told (g.S.Store.shown c.args.store.now) (g.S.Store.shown c.poll_step-reply.new.store) c.args.self.now _ c.poll_step-reply.result
     (record { id = refl; txns = refl; tasks = refl; taken = refl }) c.poll_step-reply.ensures
+
+pub returns-clause-falls : goal.returns-clause-falls
+returns-clause-falls g c =
+    poll_falls g.D.Disk.told g.D.Disk.shown g.S.Store.told (g.S.Store.shown c.args.store.now) (g.S.Store.shown c.poll_step-reply.new.store) c.args.self.now
+    (record c.args.self.now { ledger = c.poll_step-reply.new.ledger; seen = c.poll_step-reply.new.seen; latest = c.poll_step-reply.new.latest }) refl c.poll_step-reply.ensures.log
+    c.poll_step-reply.result c.poll_step-reply.ensures

@@ -1,11 +1,15 @@
-use Rattle.std.proofs.Common.{◌<◌, ◌∙◌, refl, subst, sym, vec_capacity, vec_len}
+use Rattle.std.proofs.Common.{ap, refl, subst, sym, vec_capacity, vec_len, ◌<◌, ◌∙◌}
 use Rattle.std.specs.Global.{Vec}
 use Rattle.bcv_slots.specs.declared.Slot.{Slot}
+use Rattle.bcv_ledger.specs.declared.ledger.Ledger.{Ledger}
+use Rattle.bcv_transaction.specs.Open.{Open}
 use Rattle.bcv_client.specs.TaskTaken.{CanGiveBack}
 use Rattle.bcv_client.specs.declared.job.Job.{Job}
 use Rattle.bcv_client.specs.declared.job.Job.TheVariants as job
+use Rattle.bcv_client.proofs.CallFaults.{disk_then}
 use Rattle.bcv_client.proofs.PollForm.{read_still}
 use Rattle.bcv_client.proofs.PublicationGoesOn.{back_where, in_form_on, publishes, single_still, stays_where}
+use Rattle.bcv_client.proofs.FallsCalls.{back_falls}
 use Rattle.bcv_client.proofs.client.Client.publication.Goals as goal
 
 pub publish_once-reply-requires-clause-form : goal.publish_once-reply-requires-clause-form
@@ -45,7 +49,11 @@ pub returns-then-not-is_working-clause-read : goal.returns-then-not-is_working-c
 returns-then-not-is_working-clause-read g c = c.publish_once-reply.ensures.read
 
 pub returns-then-not-is_working-clause-same : goal.returns-then-not-is_working-clause-same
-returns-then-not-is_working-clause-same g c = record { id = c.publish_once-reply.ensures.only.id; taken = c.publish_once-reply.ensures.only.taken }
+returns-then-not-is_working-clause-same g c = record {
+  id = c.publish_once-reply.ensures.only.id;
+  taken = c.publish_once-reply.ensures.only.taken;
+  slots = c.publish_once-reply.ensures.only.slots;
+}
 
 pub returns-then-not-is_working-clause-steps : goal.returns-then-not-is_working-clause-steps
 returns-then-not-is_working-clause-steps g c =
@@ -65,6 +73,7 @@ pub returns-clause-same : goal.returns-clause-same
 returns-clause-same g c = record {
   id = c.give_back.ensures.back.only.id ∙ c.publish_once-reply.ensures.only.id;
   taken = c.give_back.ensures.back.only.taken ∙ c.publish_once-reply.ensures.only.taken;
+  slots = ap (λ (o : Open). o.slots) c.give_back.ensures.back.only.txns ∙ c.publish_once-reply.ensures.only.slots;
 }
 
 pub returns-clause-steps : goal.returns-clause-steps
@@ -74,3 +83,28 @@ returns-clause-steps g c =
     c.give_back.new.self c.args.number c.args.set c.args.taken c.args.task c.publish_once-reply.new.task c.publish_once-reply.result
     (back_where c.publish_once-reply.new.self c.give_back.new.self c.args.number c.args.set c.args.taken c.publish_once-reply.result c.publish_once-reply.new.task (sym c.is_working.ensures ∙ c.if-not-is_working.false) c.give_back.ensures.back)
     c.publish_once-reply.ensures.steps
+
+pub returns-then-not-is_working-clause-falls : goal.returns-then-not-is_working-clause-falls
+returns-then-not-is_working-clause-falls g c =
+    back_falls g.D.Disk.told g.D.Disk.shown g.S.Store.told (g.S.Store.shown c.args.outside.now.store) (g.S.Store.shown c.publish_once-reply.new.outside.store) (g.N.Names.shown c.args.outside.now.names)
+    (g.N.Names.shown c.publish_once-reply.new.outside.names) c.args.self.now c.publish_once-reply.new.self c.publish_once-reply.new.self c.args.number c.args.set c.args.taken c.args.task refl refl c.publish_once-reply.ensures.falls
+
+pub returns-clause-falls : goal.returns-clause-falls
+returns-clause-falls g c =
+    back_falls g.D.Disk.told g.D.Disk.shown g.S.Store.told (g.S.Store.shown c.args.outside.now.store) (g.S.Store.shown c.publish_once-reply.new.outside.store) (g.N.Names.shown c.args.outside.now.names)
+    (g.N.Names.shown c.publish_once-reply.new.outside.names) c.args.self.now c.publish_once-reply.new.self c.give_back.new.self c.args.number c.args.set c.args.taken c.args.task c.give_back.ensures.back.only.id
+    (ap (λ (l : Ledger g.row.D.Denot g.D.Disk). l.log) c.give_back.ensures.back.only.ledger) c.publish_once-reply.ensures.falls
+
+pub returns-then-not-is_working-clause-disk : goal.returns-then-not-is_working-clause-disk
+returns-then-not-is_working-clause-disk g c = c.publish_once-reply.ensures.disk
+
+pub returns-then-not-is_working-clause-causes : goal.returns-then-not-is_working-clause-causes
+returns-then-not-is_working-clause-causes g c = c.publish_once-reply.ensures.causes
+
+pub returns-clause-disk : goal.returns-clause-disk
+returns-clause-disk g c =
+    disk_then g.D.Disk.told g.D.Disk.shown c.args.self.now c.give_back.new.self c.publish_once-reply.new.self.ledger.log c.publish_once-reply.result
+    (ap (λ (l : Ledger _ _). l.log) c.give_back.ensures.back.only.ledger) c.publish_once-reply.ensures.disk
+
+pub returns-clause-causes : goal.returns-clause-causes
+returns-clause-causes g c = c.publish_once-reply.ensures.causes

@@ -1,4 +1,5 @@
 use Rattle.std.proofs.Common.{◌∙◌, sym}
+use Rattle.bcv_client.proofs.FallsCalls.{put_falls_as}
 use Rattle.bcv_client.proofs.client.Client.publish_once.Goals as goal
 
 pub put_task-requires-clause-form : goal.put_task-requires-clause-form
@@ -57,3 +58,23 @@ returns-clause-goes_on g c = c.work_task.ensures.goes_on
 
 pub returns-clause-steps : goal.returns-clause-steps
 returns-clause-steps g c = c.work_task.ensures.steps
+
+pub returns-then-ready-clause-falls : goal.returns-then-ready-clause-falls
+returns-then-ready-clause-falls g c =
+    put_falls_as g.D.Disk.told g.D.Disk.shown g.S.Store.told (g.S.Store.shown c.args.outside.now.store) (g.S.Store.shown c.put_task.new.store) (g.N.Names.shown c.args.outside.now.names) c.args.self.now
+    c.put_task.new.self c.args.set c.args.taken c.args.task.now c.put_task.ensures.falls
+
+pub returns-clause-falls : goal.returns-clause-falls
+returns-clause-falls g c = c.work_task.ensures.falls
+
+pub returns-then-ready-clause-disk : goal.returns-then-ready-clause-disk
+returns-then-ready-clause-disk g c = c.put_task.ensures.disk
+
+pub returns-then-ready-clause-causes : goal.returns-then-ready-clause-causes
+returns-then-ready-clause-causes g c = c.put_task.ensures.causes (g.N.Names.shown c.args.outside.now.names)
+
+pub returns-clause-disk : goal.returns-clause-disk
+returns-clause-disk g c = c.work_task.ensures.disk
+
+pub returns-clause-causes : goal.returns-clause-causes
+returns-clause-causes g c = c.work_task.ensures.causes

@@ -10,9 +10,11 @@ use Rattle.bcv_publish.specs.declared.work.Work.TheVariants as work
 use Rattle.bcv_tasks.specs.declared.publish_task.PublishTask.{PublishTask}
 use Rattle.bcv_tasks.specs.State.{IsRunning, is_ready, pending_of, refused_of, upload_of}
 use Rattle.bcv_client.specs.PublicationPut.{EndsUntimed, PutsAt, signed}
+use Rattle.bcv_client.proofs.CallFaults.{put_causes, put_disk}
 use Rattle.bcv_client.proofs.TaskStands.{waits_for}
 use Rattle.bcv_client.proofs.PutSteps.{put_holds, untimed_holds, untimed_notes}
 use Rattle.bcv_client.proofs.PutTasks.{signed_form, signed_ready}
+use Rattle.bcv_client.proofs.FallsSteps.{put_falls}
 use Rattle.bcv_client.proofs.client.Client.put_task.Goals as goal
 
 pub put_at-requires-clause-running : goal.put_at-requires-clause-running
@@ -239,3 +241,29 @@ returns-in-Failed-clause-steps g c =
     } in
     (untimed_holds g.D.Disk.told g.D.Disk.shown g.S.Store.told (g.S.Store.shown c.args.store.now) (g.S.Store.shown c.args.store.now) (g.C.Clock.shown c.args.clock.now) (g.C.Clock.shown c.now.new.self) s new c.args.set c.args.taken
     c.args.task.now c.end_work.result c.sign.new.task told_none.cause.1 step c.requires.form c.requires.can.form (subst IsId c.id.ensures c.bytes.ensures.id) (c.requires.can.alone refl) c.requires.read told_none).steps
+
+pub returns-in-At-clause-falls : goal.returns-in-At-clause-falls
+returns-in-At-clause-falls g c =
+    put_falls g.D.Disk.told g.D.Disk.shown g.met.D.Disk.counts_now g.S.Store.told (g.S.Store.shown c.args.store.now) (g.S.Store.shown c.put_at.new.store) c.args.self.now c.put_at.new.self
+    (returns-in-At-clause-only g c).id c.args.set c.args.taken c.args.task.now (returns-in-At-clause-notes g c)
+
+pub returns-in-Failed-clause-falls : goal.returns-in-Failed-clause-falls
+returns-in-Failed-clause-falls g c =
+    put_falls g.D.Disk.told g.D.Disk.shown g.met.D.Disk.counts_now g.S.Store.told (g.S.Store.shown c.args.store.now) (g.S.Store.shown c.args.store.now) c.args.self.now
+    (record c.args.self.now { ledger = c.end_work.new.ledger }) refl c.args.set c.args.taken c.args.task.now (returns-in-Failed-clause-notes g c)
+
+pub returns-in-At-clause-disk : goal.returns-in-At-clause-disk
+returns-in-At-clause-disk g c =
+    put_disk g.D.Disk.told g.D.Disk.shown g.S.Store.told (g.S.Store.shown c.args.store.now) (g.S.Store.shown c.put_at.new.store) (g.C.Clock.shown c.args.clock.now) (g.C.Clock.shown c.now.new.self) c.args.self.now c.put_at.new.self c.args.set c.args.taken c.args.task.now c.put_at.result c.put_at.new.task (returns-in-At-clause-puts g c)
+
+pub returns-in-At-clause-causes : goal.returns-in-At-clause-causes
+returns-in-At-clause-causes g c = λ names.
+    put_causes g.D.Disk.told g.D.Disk.shown g.S.Store.told (g.S.Store.shown c.args.store.now) (g.S.Store.shown c.put_at.new.store) names (g.C.Clock.shown c.args.clock.now) (g.C.Clock.shown c.now.new.self) c.args.self.now c.put_at.new.self c.args.set c.args.taken c.args.task.now c.put_at.result c.put_at.new.task (returns-in-At-clause-puts g c)
+
+pub returns-in-Failed-clause-disk : goal.returns-in-Failed-clause-disk
+returns-in-Failed-clause-disk g c =
+    put_disk g.D.Disk.told g.D.Disk.shown g.S.Store.told (g.S.Store.shown c.args.store.now) (g.S.Store.shown c.args.store.now) (g.C.Clock.shown c.args.clock.now) (g.C.Clock.shown c.now.new.self) c.args.self.now (record c.args.self.now { ledger = c.end_work.new.ledger }) c.args.set c.args.taken c.args.task.now c.end_work.result c.sign.new.task (returns-in-Failed-clause-puts g c)
+
+pub returns-in-Failed-clause-causes : goal.returns-in-Failed-clause-causes
+returns-in-Failed-clause-causes g c = λ names.
+    put_causes g.D.Disk.told g.D.Disk.shown g.S.Store.told (g.S.Store.shown c.args.store.now) (g.S.Store.shown c.args.store.now) names (g.C.Clock.shown c.args.clock.now) (g.C.Clock.shown c.now.new.self) c.args.self.now (record c.args.self.now { ledger = c.end_work.new.ledger }) c.args.set c.args.taken c.args.task.now c.end_work.result c.sign.new.task (returns-in-Failed-clause-puts g c)

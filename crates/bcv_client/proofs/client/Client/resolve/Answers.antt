@@ -1,6 +1,7 @@
 use Rattle.std.proofs.Common.{refl}
 use Rattle.bcv_client.proofs.ResolveOver.{form_resolved, resolve_ends}
 use Rattle.bcv_client.proofs.NeededKept.{trims_as}
+use Rattle.bcv_client.proofs.FallsSteps.{resolve_falls}
 use Rattle.bcv_client.proofs.client.Client.resolve.Goals as goal
 
 pub resolve_step-reply-requires-clause-pending : goal.resolve_step-reply-requires-clause-pending
@@ -32,3 +33,8 @@ returns-clause-ends g c =
     (record { id = refl; seen = refl; latest = refl; txns = refl; tasks = refl })
     (record { mid = c.resolve_step-reply.new.ledger; resolves = c.resolve_step-reply.ensures; trims = trims_as c.resolve_step-reply.new.ledger c.trim_where.new.ledger c.args.self.now.txns c.is_resolved.result _ c.uploaded_set-set.result _ c.deref.result.now c.args.self.now.tasks.items c.is_resolved.ensures c.uploaded_set-set.ensures c.deref.ensures.value c.trim_where.ensures.trims; views = c.trim_where.ensures.views })
     c.requires.form c.kept.ensures.sound c.requires.alone
+
+pub returns-clause-falls : goal.returns-clause-falls
+returns-clause-falls g c =
+    resolve_falls g.D.Disk.told g.D.Disk.shown g.met.D.Disk.counts_now g.S.Store.told (g.S.Store.shown c.args.store.now) (g.S.Store.shown c.resolve_step-reply.new.store) c.args.self.now
+    (record c.args.self.now { ledger = c.trim_where.new.ledger }) refl c.resolve_step-reply.result (returns-clause-resolves g c) c.requires.alone

@@ -1,8 +1,10 @@
 use Rattle.std.proofs.Common.{Bool, ap, refl, subst, ◌∙◌}
 use Rattle.bcv_ledger.specs.LocalCalls.{LedgerReverts, RevertSteps}
 use Rattle.bcv_client.specs.LocalWrites.{set_in_view}
+use Rattle.bcv_client.proofs.CallFaults.{revert_disk}
 use Rattle.bcv_client.proofs.Reverts.{ends, revert_is_noted, same_ledger}
 use Rattle.bcv_client.proofs.NeededKept.{trims_as}
+use Rattle.bcv_client.proofs.FallsLocal.{revert_falls}
 use Rattle.bcv_client.proofs.client.Client.revert.Goals as goal
 
 pub returns-clause-form : goal.returns-clause-form
@@ -40,3 +42,15 @@ returns-clause-steps g c = λ tells.
     (ends d.told d.shown s _ c.revert-reply.new.self c.args.db c.set_of-set.result (record { id = refl; seen = refl; latest = refl; txns = refl; tasks = refl }) c.requires.form c.revert-reply.result reverts trims c.trim_where.ensures.views)
     (same_ledger c.revert-reply.new.self c.trim_where.new.ledger s.txns c.trim_where.ensures.views) c.kept.ensures.sound c.revert-reply.result tells reverts
     (subst (λ (b : Bool). RevertSteps d.shown s.ledger c.revert-reply.new.self b c.args.db c.revert-reply.result) c.runs_publication-busy.ensures (c.revert-reply.ensures.steps tells)))
+
+pub returns-clause-falls : goal.returns-clause-falls
+returns-clause-falls g c =
+    let s = c.args.self.now in
+    let d = g.D.Disk in
+    revert_falls d.told d.shown g.met.D.Disk.counts_now s (record s { ledger = c.trim_where.new.ledger }) c.args.db (record { id = refl; seen = refl; latest = refl; txns = refl; tasks = refl }) c.revert-reply.new.self
+    (same_ledger c.revert-reply.new.self c.trim_where.new.ledger s.txns c.trim_where.ensures.views) c.revert-reply.result
+    (subst (λ (b : Bool). LedgerReverts d.told d.shown s.ledger c.revert-reply.new.self b c.args.db c.revert-reply.result) c.runs_publication-busy.ensures c.revert-reply.ensures.reverts)
+
+pub returns-clause-disk : goal.returns-clause-disk
+returns-clause-disk g c =
+    revert_disk g.D.Disk.told g.D.Disk.shown c.args.self.now (record c.args.self.now { ledger = c.trim_where.new.ledger }) c.args.db c.revert-reply.result (returns-clause-reverts g c)

@@ -1,9 +1,12 @@
-use Rattle.std.proofs.Common.{◌≡◌, false, true, refl, subst, sym}
+use Rattle.std.proofs.Common.{◌≡◌, false, true, ap, refl, subst, sym}
+use Rattle.bcv_transaction.specs.Open.{Open}
 use Rattle.bcv_client.specs.Steps.{EndsJob}
 use Rattle.bcv_client.specs.TaskTaken.{CanStep}
 use Rattle.bcv_client.specs.declared.job.Job.{Job}
 use Rattle.bcv_client.specs.declared.job.Job.TheVariants as job
+use Rattle.bcv_client.proofs.CallFaults.{fetch_causes, fetch_disk, poll_causes, poll_disk, resolve_causes, resolve_disk}
 use Rattle.bcv_client.proofs.PollForm.{read_still}
+use Rattle.bcv_client.proofs.SlotsKept.{steps_slots}
 use Rattle.bcv_client.proofs.client.Client.single_step.Goals as goal
 
 pub fetch-requires-clause-form : goal.fetch-requires-clause-form
@@ -45,7 +48,14 @@ returns-in-Fetch-clause-read g c = read_still c.args.self.now.seen _ c.args.self
 pub returns-in-Fetch-clause-only : goal.returns-in-Fetch-clause-only
 returns-in-Fetch-clause-only g c =
     let only = c.fetch.ensures.fetches.fetches.only in
-    record { id = only.reading.id; tasks = only.tasks; taken = only.reading.taken }
+    record {
+      id = only.reading.id;
+      tasks = only.tasks;
+      taken = only.reading.taken;
+      slots =
+          steps_slots _ _ g.S.Store.told (g.S.Store.shown c.args.store.now) (g.S.Store.shown c.fetch.new.store) _ _ c.fetch.ensures.fetches.how c.args.self.now.txns c.fetch.new.self.txns
+          c.fetch.ensures.fetches.fetches.steps;
+    }
 
 pub returns-in-Fetch-clause-ends : goal.returns-in-Fetch-clause-ends
 returns-in-Fetch-clause-ends g c =
@@ -59,7 +69,7 @@ pub returns-in-Poll-clause-read : goal.returns-in-Poll-clause-read
 returns-in-Poll-clause-read g c = c.poll.ensures.read
 
 pub returns-in-Poll-clause-only : goal.returns-in-Poll-clause-only
-returns-in-Poll-clause-only g c = record { id = c.poll.ensures.only.id; tasks = c.poll.ensures.only.tasks; taken = c.poll.ensures.only.taken }
+returns-in-Poll-clause-only g c = record { id = c.poll.ensures.only.id; tasks = c.poll.ensures.only.tasks; taken = c.poll.ensures.only.taken; slots = ap (λ (o : Open). o.slots) c.poll.ensures.only.txns }
 
 pub returns-in-Poll-clause-ends : goal.returns-in-Poll-clause-ends
 returns-in-Poll-clause-ends g c =
@@ -73,9 +83,42 @@ pub returns-in-Resolve-clause-read : goal.returns-in-Resolve-clause-read
 returns-in-Resolve-clause-read g c = read_still c.args.self.now.seen _ c.args.self.now.latest _ c.resolve.ensures.only.writes.seen c.resolve.ensures.only.writes.latest c.requires.read
 
 pub returns-in-Resolve-clause-only : goal.returns-in-Resolve-clause-only
-returns-in-Resolve-clause-only g c = record { id = c.resolve.ensures.only.writes.id; tasks = c.resolve.ensures.tasks; taken = c.resolve.ensures.only.taken }
+returns-in-Resolve-clause-only g c = record { id = c.resolve.ensures.only.writes.id; tasks = c.resolve.ensures.tasks; taken = c.resolve.ensures.only.taken; slots = ap (λ (o : Open). o.slots) c.resolve.ensures.only.writes.txns }
 
 pub returns-in-Resolve-clause-ends : goal.returns-in-Resolve-clause-ends
 returns-in-Resolve-clause-ends g c =
     subst (λ (j : Job). EndsJob g.D.Disk.told g.D.Disk.shown g.S.Store.told (g.S.Store.shown c.args.store.now) (g.S.Store.shown c.resolve.new.store) c.args.self.now c.resolve.new.self j c.resolve.result)
     (sym c.in-Resolve.is) c.resolve.ensures.ends
+
+pub returns-in-Fetch-clause-falls : goal.returns-in-Fetch-clause-falls
+returns-in-Fetch-clause-falls g c = c.fetch.ensures.falls
+
+pub returns-in-Poll-clause-falls : goal.returns-in-Poll-clause-falls
+returns-in-Poll-clause-falls g c = c.poll.ensures.falls
+
+pub returns-in-Resolve-clause-falls : goal.returns-in-Resolve-clause-falls
+returns-in-Resolve-clause-falls g c = c.resolve.ensures.falls
+
+pub returns-in-Fetch-clause-disk : goal.returns-in-Fetch-clause-disk
+returns-in-Fetch-clause-disk g c =
+    fetch_disk g.D.Disk.told g.D.Disk.shown g.S.Store.told (g.S.Store.shown c.args.store.now) (g.S.Store.shown c.fetch.new.store) c.args.self.now c.fetch.new.self _ _ _ c.fetch.result c.fetch.ensures.fetches
+
+pub returns-in-Fetch-clause-causes : goal.returns-in-Fetch-clause-causes
+returns-in-Fetch-clause-causes g c = λ names clock.
+    fetch_causes g.D.Disk.told g.D.Disk.shown g.S.Store.told (g.S.Store.shown c.args.store.now) (g.S.Store.shown c.fetch.new.store) names clock c.args.self.now c.fetch.new.self _ _ _ c.fetch.result c.fetch.ensures.fetches
+
+pub returns-in-Poll-clause-disk : goal.returns-in-Poll-clause-disk
+returns-in-Poll-clause-disk g c =
+    poll_disk g.D.Disk.told g.D.Disk.shown g.S.Store.told (g.S.Store.shown c.args.store.now) (g.S.Store.shown c.poll.new.store) c.args.self.now c.poll.new.self c.poll.result c.poll.ensures.polls
+
+pub returns-in-Poll-clause-causes : goal.returns-in-Poll-clause-causes
+returns-in-Poll-clause-causes g c = λ names clock.
+    poll_causes g.D.Disk.told g.D.Disk.shown g.S.Store.told (g.S.Store.shown c.args.store.now) (g.S.Store.shown c.poll.new.store) names clock c.args.self.now c.poll.new.self c.poll.result c.poll.ensures.polls
+
+pub returns-in-Resolve-clause-disk : goal.returns-in-Resolve-clause-disk
+returns-in-Resolve-clause-disk g c =
+    resolve_disk g.D.Disk.told g.D.Disk.shown g.S.Store.told (g.S.Store.shown c.args.store.now) (g.S.Store.shown c.resolve.new.store) c.args.self.now c.resolve.new.self c.resolve.result c.resolve.ensures.resolves
+
+pub returns-in-Resolve-clause-causes : goal.returns-in-Resolve-clause-causes
+returns-in-Resolve-clause-causes g c = λ names clock.
+    resolve_causes g.D.Disk.told g.D.Disk.shown g.S.Store.told (g.S.Store.shown c.args.store.now) (g.S.Store.shown c.resolve.new.store) names clock c.args.self.now c.resolve.new.self c.resolve.result c.resolve.ensures.resolves
