@@ -18,5 +18,6 @@ mod world;
 mod writing;
 
 pub use fault::LineFault;
+pub use number::number_in;
 pub use reading::{read_line, read_pair, read_world};
-pub use writing::{write_reply, write_text};
+pub use writing::{add_number, write_reply, write_text};

@@ -29,7 +29,7 @@ pub fn last_number(words: &mut Words, low: u64, high: u64) -> Result<u64, Stop>
     Ok(number)
 }
 
-// The number that a word writes in decimal, where it lies in the range.
+/// The number that a word writes in decimal, where it lies in the range.
 pub fn number_in(word: &[u8], low: u64, high: u64) -> Option<u64>
     ensures value { result ≡ number_in low high word.now }
     ensures within { IfSome result (λ n. n ≤ high) }

@@ -252,8 +252,9 @@ fn add_part(part: &Part, into: &mut Vec<u8>) -> Result<(), AllocError>
     }
 }
 
+/// Adds a number's decimal digits to the end of `into`; what stood there before still begins it where memory ran out.
 #[tactic(auto, using(crate::proofs::Adding::front_kept, crate::proofs::Adding::digit_only, crate::proofs::Adding::number_onto))]
-fn add_number(number: u64, into: &mut Vec<u8>) -> Result<(), AllocError>
+pub fn add_number(number: u64, into: &mut Vec<u8>) -> Result<(), AllocError>
     ensures { Adds result into.old.items into.new.items (decimal number) }
 {
     let digit = b'0' + (number % 10) as u8;

@@ -1,9 +1,7 @@
-pub mod Accepted
 pub mod Causes
-pub mod Grammar
-pub mod Newlines
+pub mod Commanded
+pub mod MadeRuns
+pub mod PlayedOn
 pub mod Played
-pub mod Reader
-pub mod Refused
 pub mod Stepping
 pub mod Writer

@@ -1,21 +1,19 @@
 -- How far a replay has come, and how it ends.
-use Rattle.std.proofs.Common.{◌≡◌, ◌≢◌, ℕ, ◌+◌, ◌^◌, ◌<◌, ◌≤◌, inl, inr, List, [], ◌∷◌, ◌++◌, length, length-append, take, take_all, Some, None, refl, sym, ap, ◌∙◌, subst, append_assoc, append-nil, arith}
+use Rattle.std.proofs.Common.{◌≡◌, ◌≢◌, ℕ, ◌+◌, ◌^◌, ◌<◌, ◌≤◌, inl, inr, List, [], ◌∷◌, ◌++◌, length, length-append, take, take_all, Some, None, Err, refl, sym, ap, ◌∙◌, subst, append_assoc, append-nil, arith}
 use Rattle.std.specs.Prelude.{Option}
 use Rattle.std.specs.Io.KnownBytes.{Appends, Consumes, IsAtEnd}
 use Rattle.std.proofs.KnownBytes.{Consumes-nil, Consumes-trans, Appends-nil, Appends-trans}
 use Rattle.std.proofs.lemmas.Grind.{flat_map-append}
-use Rattle.std.proofs.lemmas.List.{length-map}
-use Rattle.bcv_model.specs.declared.event.Event.{Event}
 use Rattle.bcv_model.specs.declared.reply.Said.{Said}
 use Rattle.bcv_model.specs.ReplyText.{said_text}
 use Rattle.bcv_model.specs.Script.{world_of, world_at}
-use Rattle.bcv_top.specs.Taken.{taken_event}
 use Rattle.bcv_world.specs.declared.world.World.{World}
 use Rattle.bcv_top.specs.declared.status.Status.{Status}
 use Rattle.bcv_top.specs.declared.status.Status.TheVariants as status
-use Rattle.bcv_top.specs.Lines.{Splits, IsOpen, IsNext, IsLast, IsLine, AreAll, AreLines, BeginsWith, text_of, most_of_script}
-use Rattle.bcv_top.specs.Reading.{FitsFront, FitsWhole, PassesLimit}
-use Rattle.bcv_top.specs.Replay.{Leads, StopsAt, IsNoWorld, replies_text}
+use Rattle.bcv_lines.specs.Lines.{Splits, IsOpen, IsNext, IsLast, IsLine, AreAll, AreLines, BeginsWith, text_of, most_of_script}
+use Rattle.bcv_lines.specs.Reading.{FitsFront, FitsWhole, PassesLimit}
+use Rattle.bcv_lines.proofs.LineLists.{text_length, lines_few, splits_more, splits_line, is_last}
+use Rattle.bcv_top.specs.Replay.{Leads, StopsAt, replies_text}
 use Rattle.bcv_top.specs.Headline.{Replays, WritesFront, HasCauses}
 use Rattle.bcv_top.proofs.Writer.{take_over}
 use Rattle.bcv_top.specs.Led.{Led, Tells, IsCut, IsReady, Ends, SaysLast, end_of, kept_at, listed}
@@ -26,48 +24,16 @@ no_end : (a : List (List ℕ)) (x : List ℕ) → a ++ x ∷ [] ≡ [] → ⊥
 no_end [] x e = cc
 no_end (b ∷ a) x e = cc
 
-text_more : (lines : List (List ℕ)) (line : List ℕ) → text_of (lines ++ line ∷ []) ≡ text_of lines ++ (line ++ 10 ∷ [])
-text_more lines line =
-    flat_map-append (λ (l : List ℕ). l ++ 10 ∷ []) lines (line ∷ []) ∙ ap (λ (l : List ℕ). text_of lines ++ l) (append-nil (line ++ 10 ∷ []))
-
-text_length : (lines : List (List ℕ)) (line : List ℕ) → length (text_of (lines ++ line ∷ [])) ≡ length (text_of lines) + length line + 1
-text_length lines line = omega (arith, ap length (text_more lines line), length-append (text_of lines) (line ++ 10 ∷ []), length-append line (10 ∷ []))
-
--- each line takes a byte at least
-lines_few : (lines : List (List ℕ)) → length lines ≤ length (text_of lines)
-lines_few [] = omega arith
-lines_few (l ∷ lines) = omega (arith, lines_few lines, length-append (l ++ 10 ∷ []) (text_of lines), length-append l (10 ∷ []))
-
-lines_more : (lines : List (List ℕ)) (line : List ℕ) → AreLines lines → IsLine line → AreLines (lines ++ line ∷ [])
-lines_more [] line a i = (i, tt)
-lines_more (l ∷ lines) line a i = (a.0, lines_more lines line a.1 i)
-
--- ---- the lines of what was taken
-
-splits_more : (taken t chunk : List ℕ) (lines : List (List ℕ)) → Splits taken lines chunk → Splits (taken ++ t) lines (chunk ++ t)
-splits_more taken t chunk lines s = record {
-  joined = ap (λ (l : List ℕ). l ++ t) s.joined ∙ append_assoc (text_of lines) chunk t;
-  are_lines = s.are_lines;
-  within = s.within;
-}
-
-splits_line : (taken rest line more : List ℕ) (lines : List (List ℕ)) → Splits taken lines rest → rest ≡ line ++ 10 ∷ more → FitsWhole (length (text_of lines)) line → Splits taken (lines ++ line ∷ []) more
-splits_line taken rest line more lines s e f = record {
-  joined = s.joined ∙ ap (λ (l : List ℕ). text_of lines ++ l) (e ∙ sym (append_assoc line (10 ∷ []) more)) ∙ sym (append_assoc (text_of lines) (line ++ 10 ∷ []) more) ∙ ap (λ (l : List ℕ). l ++ more) (sym (text_more lines line));
-  are_lines = lines_more lines line s.are_lines f.is_line;
-  within = omega (arith, text_length lines line, f.fits);
-}
-
 -- ---- what lines led to
 
 led_leads : (w : Option World) (lines : List (List ℕ)) (replies : List Said) → Led w lines replies → Leads lines w replies
 led_leads None lines replies l = subst (λ (x : List (List ℕ)). Leads x None replies) (sym l.0) l.1
-led_leads (Some w) lines replies l = subst (λ (x : List (List ℕ)). Leads x (Some w) replies) (sym l.2) (l.3.good, (l.3.h, l.3.a, l.3.fixes, l.3.runs))
+led_leads (Some w) lines replies l = subst (λ (x : List (List ℕ)). Leads x (Some w) replies) (sym l.2) (l.3.on.world, (l.3.h, l.3.a, l.3.fixes, l.3.runs))
 
 led_ready : (w : Option World) (lines : List (List ℕ)) (replies : List Said) → Led w lines replies → length lines < 2 ^ 62 → IsReady w
 led_ready None lines replies l h = tt
 led_ready (Some w) lines replies l h =
-    (l.3.good, l.3.fixes.built, omega (arith, ap length l.2, ap length l.3.runs.events, length-map l.1 (taken_event w.spec), length-map l.3.h.events (λ (e : Event). Some e), l.3.runs.mirrors.applied))
+    (l.3.on.world, omega (arith, h, ap length l.2, l.3.on.events_are))
 
 -- ---- the end by a line
 
@@ -103,7 +69,7 @@ stops : (taken rest line written w : List ℕ) (lines : List (List ℕ)) (replie
     → Splits taken lines rest → IsNext ended lines rest line → BeginsWith ended taken (lines ++ line ∷ []) → Led old lines replies → written ≡ replies_text replies → n ≡ length lines + 1
     → Ends s n old new line w → Replays s (kept_at s new) taken ended (written ++ w)
 stops taken rest line written w lines replies ended old new n (status.BadScript at place) s i all l t c e =
-    (e.1, (lines, rest, line, replies, e.0 ∙ c, s, i, subst (λ (x : Option World). StopsAt lines x replies line) (sym e.3) (led_leads old lines replies l, e.4), same_text replies written w t e.2))
+    (lines, rest, line, replies, e.0 ∙ c, s, i, subst (λ (x : Option World). StopsAt place lines x replies line) (sym e.2) (led_leads old lines replies l, e.3), same_text replies written w t e.1)
 stops taken rest line written w lines replies ended old new n status.WriteFault s i all l t c e = (
   lines ++ line ∷ [],
   replies,
@@ -127,9 +93,9 @@ done taken written all replies ended (Some w) e a l t none =
     (e, (l.0, l.1, replies, subst (AreAll taken) l.2 a, subst (λ (x : List (List ℕ)). Leads x (Some w) replies) l.2 (led_leads (Some w) all replies l), t))
 
 -- an input that ended after whole lines
-no_world : IsNoWorld (world_of [])
+no_world : world_of [] ≡ Err 0
 unfolding world_of world_at
-no_world = tt
+no_world = refl
 
 ended_at : (w : Option World) (taken written rest : List ℕ) (lines : List (List ℕ)) (replies : List Said) (ended : Type 0) → ended → Splits taken lines rest → rest ≡ [] → Led w lines replies → written ≡ replies_text replies
     → Replays (end_of w) (kept_at (end_of w) w) taken ended written
@@ -137,17 +103,10 @@ ended_at None taken written rest lines replies ended end s e l t =
     let split : Splits taken [] [] = subst (λ (x : List (List ℕ)). Splits taken x []) l.0 (subst (Splits taken lines) e s) in
     let empty : IsLine [] = record { whole = refl; short = omega arith } in
     let whole : IsOpen [] [] = record { is_line = empty; within = omega arith } in
-    (refl, ([], [], [], replies, refl, split, (empty, inr (end, tt, whole, refl)), (l.1, no_world), t))
+    ([], [], [], replies, refl, split, (empty, inr (end, tt, whole, refl)), (l.1, no_world), t)
 ended_at (Some w) taken written rest lines replies ended end s e l t =
     let split : Splits taken (l.0 ∷ l.1) [] = subst (λ (x : List (List ℕ)). Splits taken x []) l.2 (subst (Splits taken lines) e s) in
     (end, (l.0, l.1, replies, inl split, subst (λ (x : List (List ℕ)). Leads x (Some w) replies) l.2 (led_leads (Some w) lines replies l), t))
-
--- the same line, by the slice that shows it
-pub line_is : (used : ℕ) (bytes line shown rest : List ℕ) → shown ≡ line → (bytes ≡ line ++ 10 ∷ rest) × FitsWhole used line → (bytes ≡ shown ++ 10 ∷ rest) × FitsWhole used shown
-line_is used bytes line shown rest e h = subst (λ (l : List ℕ). (bytes ≡ l ++ 10 ∷ rest) × FitsWhole used l) (sym e) h
-
-pub last_is : (used : ℕ) (bytes line shown : List ℕ) (ended : Type 0) → shown ≡ line → ended × (bytes ≡ line) × (0 < length line) × FitsFront used line → ended × (bytes ≡ shown) × (0 < length shown) × FitsFront used shown
-last_is used bytes line shown ended e h = subst (λ (l : List ℕ). ended × (bytes ≡ l) × (0 < length l) × FitsFront used l) (sym e) h
 
 -- ---- how far a replay has come: what was taken and written, and the lines that were applied
 
@@ -258,10 +217,6 @@ module _ (ib im ob om : Option (List ℕ)) (w : Option World) (number used : ℕ
       let split : Splits (p.taken ++ t) p.lines line = subst (Splits (p.taken ++ t) p.lines) e (splits_more p.taken t chunk p.lines p.splits) in
       let rest_open : IsOpen p.lines line = record { is_line = f.is_line; within = omega (arith, p.used_is, f.fits) } in
       inr (p.lines, line, refl, split, rest_open, long)
-
-  is_last : (lines : List (List ℕ)) (line : List ℕ) → 0 < length line → IsLast lines line
-  is_last [] line h = tt
-  is_last (l ∷ lines) line h = h
 
   last_next : (line : List ℕ) → IsAtEnd ie → chunk ++ t ≡ line → FitsFront used line → 0 < length line → IsNext (IsAtEnd ie) p.lines (chunk ++ t) line
   last_next line end e f long =

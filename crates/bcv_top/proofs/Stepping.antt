@@ -1,88 +1,86 @@
 -- What one line does to the world that the lines before it led to.
-use Rattle.std.proofs.Common.{◌≡◌, ℕ, ◌<◌, inl, inr, true, false, List, [], ◌∷◌, ◌++◌, length, map, take, Some, None, Result, Ok, Err, refl, sym, ap, ◌∙◌, subst, append-nil, arith}
-use Rattle.std.specs.Prelude.{Bool, Option}
+use Rattle.std.proofs.Common.{◌≡◌, ℕ, ◌<◌, ◌+◌, ◌^◌, inl, inr, List, [], ◌∷◌, ◌++◌, length, length-append, map, take, Some, None, Result, Ok, Err, refl, sym, ap, ◌∙◌, subst, append-nil, arith}
+use Rattle.std.specs.Prelude.{Option, false}
 use Rattle.std.specs.Io.KnownBytes.{Appends}
 use Rattle.std.proofs.KnownBytes.{Appends-nil}
 use Rattle.std.proofs.lemmas.List.{map-append}
+use Rattle.bcv_world.specs.declared.world.World.{World}
+use Rattle.bcv_world.specs.Standing.{IsFirst, TakesEvent, state_at}
+use Rattle.bcv_world.specs.Tallies.{tallied}
+use Rattle.bcv_world.specs.WorldForm.{IsWorld}
+use Rattle.bcv_machine.specs.Run.{Transcript, empty_transcript, then_said}
+use Rattle.bcv_machine.specs.State.{State}
 use Rattle.bcv_model.specs.declared.event.Event.{Event}
 use Rattle.bcv_model.specs.declared.reply.Said.{Said}
 use Rattle.bcv_model.specs.declared.spec.WorldSpec.{WorldSpec}
-use Rattle.bcv_model.specs.Machine.{History, then_said, no_history}
-use Rattle.bcv_model.specs.MachineState.{State}
 use Rattle.bcv_model.specs.ReplyText.{said_text}
 use Rattle.bcv_model.specs.Script.{world_of, event_of}
-use Rattle.bcv_model.specs.Words.{given}
 use Rattle.bcv_script.specs.Reading.{Refuses}
 use Rattle.bcv_script.specs.declared.fault.LineFault.{LineFault}
 use Rattle.bcv_script.specs.declared.fault.LineFault.TheVariants as fault
-use Rattle.bcv_world.specs.declared.world.World.{World}
-use Rattle.bcv_world.specs.Given.{is_world}
-use Rattle.bcv_world.specs.Stands.{Mirrors, IsGood}
-use Rattle.bcv_world.specs.Moves.{Applies}
 use Rattle.bcv_top.specs.declared.output.Wrote.{Wrote}
 use Rattle.bcv_top.specs.declared.output.Wrote.TheVariants as wrote
 use Rattle.bcv_top.specs.declared.status.Status.{Status}
 use Rattle.bcv_top.specs.declared.status.Status.TheVariants as status
-use Rattle.bcv_top.specs.Replay.{Fixes, Runs, IsNoWorld, replies_text}
-use Rattle.bcv_top.specs.Taken.{is_taken, taken, taken_event}
+use Rattle.bcv_top.specs.Replay.{Runs, replies_text}
 use Rattle.bcv_top.specs.Writing.{Writes}
-use Rattle.bcv_top.specs.Led.{LedBy, LeadsOn, Tells, Steps, Ends, Says, SaysLast, First, Answers, listed, stopped_by, writing_end_of}
+use Rattle.bcv_top.specs.Led.{LedBy, LeadsOn, PlaysOn, Tells, Steps, Ends, Says, SaysLast, First, Answers, is_no_memory, listed, stopped_by, writing_end_of}
+use Rattle.bcv_top.proofs.PlayedOn.{OneMore, new_plays, no_memory, one_more}
 
 -- ---- a further line
 
 pub answer_unread : (f : LineFault) (world : World) (line text : List ℕ) → Refuses f (event_of world.spec line) → Answers (Err f) world world line text
-answer_unread (fault.BadLine at) world line text e = (refl, ap taken e)
+answer_unread (fault.BadLine at) world line text e = (refl, e)
 answer_unread fault.NoMemory world line text e = tt
 
--- the event of a line that was read, where the world takes it or doesn't
-pub event_taken : (spec : WorldSpec) (line : List ℕ) (e : Event) → event_of spec line ≡ Ok e → is_taken e ≡ true → taken_event spec line ≡ Some e
-event_taken spec line e is takes = ap taken is ∙ ap (λ (b : Bool). given b e) takes
-
-pub answer_not_taken : (world : World) (line text : List ℕ) (e : Event) (at : ℕ) → event_of world.spec line ≡ Ok e → is_taken e ≡ false → Answers (Err (fault.BadLine at)) world world line text
-answer_not_taken world line text e at is other = (refl, ap taken is ∙ ap (λ (b : Bool). given b e) other)
-
-events_more : (spec : WorldSpec) (lines : List (List ℕ)) (line : List ℕ) (es : List Event) (e : Event) → map (taken_event spec) lines ≡ map Some es → taken_event spec line ≡ Some e
-    → map (taken_event spec) (lines ++ line ∷ []) ≡ map Some (es ++ e ∷ [])
+events_more : (spec : WorldSpec) (lines : List (List ℕ)) (line : List ℕ) (es : List Event) (e : Event) → map (event_of spec) lines ≡ map Ok es → event_of spec line ≡ Ok e
+    → map (event_of spec) (lines ++ line ∷ []) ≡ map Ok (es ++ e ∷ [])
 events_more spec lines line es e is here =
-    map-append (taken_event spec) lines (line ∷ []) ∙ ap (λ (x : List (Option Event)). x ++ taken_event spec line ∷ []) is ∙ ap (λ (x : Option Event). map Some es ++ x ∷ []) here ∙ sym (map-append Some es (e ∷ []))
+    map-append (event_of spec) lines (line ∷ []) ∙ ap (λ (x : List (Result Event ℕ)). x ++ event_of spec line ∷ []) is
+    ∙ ap (λ (x : Result Event ℕ). map Ok es ++ x ∷ []) here ∙ sym (map-append {B = Result Event ℕ} Ok es (e ∷ []))
 
--- a run is what the world stands for, and the lines of its events
-runs_by : (w : World) (h : History) (a : State) (lines : List (List ℕ)) (replies : List Said) → map (taken_event w.spec) lines ≡ map Some h.events → h.saids ≡ replies → Mirrors w h a → Runs w h a lines replies
-runs_by w h a lines replies events saids m = record { events = events; saids = saids; accepts = m.accepts; mirrors = m; versions = m.versions }
+-- the world goes on by an event, with this said of it
+pub record GoesOn (old new : World) (e : Event) (s : Said) : Type 0 where
+  pub world : IsWorld new
+  pub spec : new.spec ≡ old.spec
+  pub tally : new.tally ≡ tallied old.tally s
+  pub takes : TakesEvent old new e s
 
-pub answered : (old new : World) (line text : List ℕ) (e : Event) (s : Said) → taken_event old.spec line ≡ Some e → Applies old new e (Ok s) → new.spec ≡ old.spec → IsGood new → text ≡ said_text s → Answers (Ok tt) old new line text
-answered old new line text e s is applied spec good said = (
-  s,
-  said,
-  λ first lines replies l.
-      let n = applied l.h l.a l.runs.mirrors in
-      let events = subst (λ (x : WorldSpec). map (taken_event x) (lines ++ line ∷ []) ≡ map Some (l.h.events ++ e ∷ [])) (sym spec) (events_more old.spec lines line l.h.events e l.runs.events is) in
+module _ (old new : World) (line : List ℕ) (e : Event) (s : Said) (is : event_of old.spec line ≡ Ok e) (ran : is_no_memory s.reply ≡ false)
+    (few : old.tally.events < 2 ^ 62) (goes : GoesOn old new e s) where
+  led_on : (first : List ℕ) (lines : List (List ℕ)) (replies : List Said) → LedBy first old lines replies → LedBy first new (lines ++ line ∷ []) (replies ++ s ∷ [])
+  led_on first lines replies l =
+      let more = one_more old new l.h l.a (length lines) e s l.on goes.world goes.spec goes.tally goes.takes (omega (arith, few, l.on.events_are)) (no_memory s.reply ran) in
+      let h : Transcript = then_said l.h e s more.choice in
+      let events = subst (λ (x : WorldSpec). map (event_of x) (lines ++ line ∷ []) ≡ map Ok (l.h.events ++ e ∷ [])) (sym goes.spec) (events_more old.spec lines line l.h.events e l.runs.events is) in
+      let count : length lines + 1 ≡ length (lines ++ line ∷ []) = omega (arith, length-append lines (line ∷ [])) in
       record {
-        h = then_said l.h e s n.0;
-        a = n.1;
-        fixes = subst (Fixes first) (sym spec) l.fixes;
-        good = good;
-        runs = runs_by new (then_said l.h e s n.0) n.1 (lines ++ line ∷ []) (replies ++ s ∷ []) events (ap (λ (x : List Said). x ++ s ∷ []) l.runs.saids) n.2;
-      },
-)
+        h = h;
+        a = more.state;
+        fixes = subst (λ (x : WorldSpec). world_of first ≡ Ok x) (sym goes.spec) l.fixes;
+        on = subst (PlaysOn new h more.state) count more.on;
+        runs = record { events = events; saids = ap (λ (x : List Said). x ++ s ∷ []) l.runs.saids; plays = more.on.plays };
+      }
+
+  pub answered : (text : List ℕ) → text ≡ said_text s → Answers (Ok tt) old new line text
+  answered text said = (s, said, led_on)
 
 -- ---- the first line
 
 pub first_unread : (f : LineFault) (line : List ℕ) → Refuses f (world_of line) → First (Err f) line
-first_unread (fault.BadLine at) line e = subst IsNoWorld (sym e) tt
+first_unread (fault.BadLine at) line e = e
 first_unread fault.NoMemory line e = tt
 
-pub first_refused : (line : List ℕ) (spec : WorldSpec) (at : ℕ) → world_of line ≡ Ok spec → is_world spec ≡ false → First (Err (fault.BadLine at)) line
-first_refused line spec at e other = subst IsNoWorld (sym e) other
-
-pub first_fixed : (line : List ℕ) (w : World) (spec : WorldSpec) (a : State) → world_of line ≡ Ok spec → is_world spec ≡ true → w.spec ≡ spec → IsGood w → Mirrors w no_history a → LedBy line w [] []
-first_fixed line w spec a e one is good m = record {
-  h = no_history;
-  a = a;
-  fixes = record { read = e ∙ ap (λ (x : WorldSpec). Ok x) (sym is); built = subst (λ (x : WorldSpec). is_world x ≡ true) (sym is) one };
-  good = good;
-  runs = runs_by w no_history a [] [] refl refl m;
-}
+pub first_fixed : (line : List ℕ) (w : World) (spec : WorldSpec) → world_of line ≡ Ok spec → w.spec ≡ spec → IsWorld w → w.tally.events ≡ 0 → IsFirst w → LedBy line w [] []
+first_fixed line w spec e is world none first =
+    let on : PlaysOn w empty_transcript (state_at w first.places) 0 = new_plays w world none first in
+    record {
+      h = empty_transcript;
+      a = state_at w first.places;
+      fixes = e ∙ ap (λ (x : WorldSpec). Ok x) (sym is);
+      on = on;
+      runs = record { events = refl; saids = refl; plays = on.plays };
+    }
 
 -- ---- any line
 
@@ -129,7 +127,7 @@ wrote_failed wrote.Failed e = refl
 wrote_failed wrote.NoMemory e = cc
 
 pub says_stopped : (b : Option (List ℕ)) (number : ℕ) (old new : Option World) (line text : List ℕ) (f : LineFault) → Steps old new line text (Err f) → Wrote_out b b (Err (stopped_by number f)) number old new line
-says_stopped b number old new line text (fault.BadLine at) h = ([], Appends-nil b, (refl, refl, refl, h.0, h.1))
+says_stopped b number old new line text (fault.BadLine at) h = ([], Appends-nil b, (refl, refl, h.0, h.1))
 says_stopped b number old new line text fault.NoMemory h = ([], Appends-nil b, inl refl)
 
 pub stopped_not : (number : ℕ) (f : LineFault) → stopped_by number f ≡ status.WriteFault → ⊥

@@ -1,9 +1,8 @@
 pub mod Codes
-pub mod FirstRead
+pub mod Commands
+pub mod Generated
 pub mod Headline
 pub mod Led
-pub mod Lines
-pub mod Reading
+pub mod MadeRun
 pub mod Replay
-pub mod Taken
 pub mod Writing

@@ -1,21 +1,22 @@
-ghost use Rattle.std.specs.Prelude.{◌≡◌, ◌≢◌, ℕ, ◌^◌, ◌<◌, ◌≤◌, [], true, false, List, length, Err};
+ghost use Rattle.std.specs.Prelude.{◌≡◌, ◌≢◌, ℕ, ◌^◌, ◌<◌, ◌≤◌, [], false, List, length, Err};
 ghost use Rattle.std.specs.Io.KnownBytes.{Appends, Consumes, IsAtEnd};
 ghost use Rattle.bcv_base.specs.Faults.{Rose};
+ghost use Rattle.bcv_world.specs.WorldForm.{IsWorld};
+ghost use Rattle.bcv_keeprule.specs.Retention.{IsKeepRule};
 ghost use Rattle.bcv_top.specs.Headline.{Replays, HasCauses};
-ghost use Rattle.bcv_top.specs.Led.{IsReady, Steps, Says, SaysLast, First, Answers, end_of, stopped_by, writing_end_of, kept_at};
-ghost use Rattle.bcv_world.specs.Given.{is_world};
-ghost use Rattle.bcv_world.specs.Stands.{IsGood};
+ghost use Rattle.bcv_top.specs.Led.{IsReady, Steps, Says, SaysLast, First, Answers, end_of, is_no_memory, kept_at, stopped_by, writing_end_of};
 
-use crate::lines::{Lines, Next};
 use crate::output::{Wrote, write_all};
 use crate::status::Status;
-use crate::taken::is_taken;
 use bcv_base::{Sink, Source};
+use bcv_keeprule::KeepRule;
+use bcv_lines::{Lines, Next};
+use bcv_model::Reply;
 use bcv_script::{LineFault, read_line, read_world, write_reply};
 use bcv_world::World;
 use std::alloc::Global;
 
-/// How a replay ended, and the world that it ran: it stands for the state that the machine reaches by the lines that were
+/// How a command ended, and the world that it ran: it stands for the state that the machine reaches by the events that were
 /// applied. At a write fault the line whose reply met the fault is one of them. There is no world where no first line fixed
 /// one, nor where memory ran out.
 #[derive(Drop)]
@@ -26,7 +27,7 @@ pub struct Replayed {
 
 impl Replayed {
     // The end at a status. Where memory ran out in the midst of an event, the world stands for no state.
-    fn at(status: Status, world: Option<World>) -> Replayed
+    pub(crate) fn at(status: Status, world: Option<World>) -> Replayed
         ensures status { result.status ≡ status }
         ensures world { result.world ≡ kept_at status world }
     {
@@ -40,12 +41,23 @@ impl Replayed {
     }
 }
 
-/// Replays the script of the input: line by line, each reply is written before more of the input is asked for.
-pub fn replay_top<I: Source, O: Sink>(alloc: Global, input: &mut I, out: &mut O) -> Replayed
+/// Replays the script of the input over a world of its own, whose cleanups ask the rule: line by line, each reply is written
+/// before more of the input is asked for.
+pub fn replay_top<F: Fn(u64, u64, u64) -> bool, I: Source, O: Sink>(
+    alloc: Global,
+    rule: &KeepRule<F>,
+    input: &mut I,
+    out: &mut O,
+) -> Replayed
+    requires rule { IsKeepRule (F.pre rule.now.rule) (F.post rule.now.rule) }
     requires unended { I.ended input.old ≡ false }
     ensures words { result.status ≢ Status.BadWords }
-    ensures replays { (taken : List ℕ) × (written : List ℕ) × Consumes (I.left input.old) (I.left input.new) taken × Appends (O.given out.old) (O.given out.new) written × Replays result.status result.world taken (IsAtEnd (I.left input.new)) written }
-    ensures causes { HasCauses (I.faults input.old) (I.faults input.new) (O.faults out.old) (O.faults out.new) result.status }
+    ensures replays { (taken : List ℕ) × (written : List ℕ)
+        × Consumes (I.left input.old) (I.left input.new) taken
+        × Appends (O.given out.old) (O.given out.new) written
+        × Replays result.status result.world taken (IsAtEnd (I.left input.new)) written }
+    ensures causes { HasCauses (I.faults input.old) (I.faults input.new)
+        (O.faults out.old) (O.faults out.new) result.status }
 {
     let mut reader = match Lines::new(alloc) {
         Ok(reader) => reader,
@@ -58,14 +70,14 @@ pub fn replay_top<I: Source, O: Sink>(alloc: Global, input: &mut I, out: &mut O)
             Next::Line => {
                 number += 1;
                 let line = reader.line.as_slice();
-                match say(alloc, &mut world, number, line, out) {
+                match say(alloc, rule, &mut world, number, line, out) {
                     Ok(()) => {}
                     Err(status) => return Replayed::at(status, world),
                 }
             }
             Next::Last => {
                 let last = reader.line.as_slice();
-                let status = say_last(alloc, &mut world, number + 1, last, out);
+                let status = say_last(alloc, rule, &mut world, number + 1, last, out);
                 return Replayed::at(status, world);
             }
             Next::End => return Replayed::at(ended(&world), world),
@@ -87,41 +99,47 @@ fn ended(world: &Option<World>) -> Status
 }
 
 // Applies the last line, which ends with the input.
-fn say_last<O: Sink>(
+fn say_last<F: Fn(u64, u64, u64) -> bool, O: Sink>(
     alloc: Global,
+    rule: &KeepRule<F>,
     world: &mut Option<World>,
     number: u64,
     line: &[u8],
     out: &mut O,
 ) -> Status
+    requires rule { IsKeepRule (F.pre rule.now.rule) (F.post rule.now.rule) }
     requires ready { IsReady world.old }
     requires short { length line.now ≤ 1048576 }
-    ensures says { (written : List ℕ) × Appends (O.given out.old) (O.given out.new) written × SaysLast result number world.old world.new line.now written }
+    ensures says { (written : List ℕ) × Appends (O.given out.old) (O.given out.new) written
+        × SaysLast result number world.old world.new line.now written }
     ensures later { O.faults out.old ≤ O.faults out.new }
     ensures cause { result ≡ Status.WriteFault → Rose (O.faults out.old) (O.faults out.new) }
 {
-    match say(alloc, world, number, line, out) {
+    match say(alloc, rule, world, number, line, out) {
         Ok(()) => Status::Done,
         Err(status) => status,
     }
 }
 
 // Applies the line of a number and writes its reply; an error is how the replay ends there.
-fn say<O: Sink>(
+fn say<F: Fn(u64, u64, u64) -> bool, O: Sink>(
     alloc: Global,
+    rule: &KeepRule<F>,
     world: &mut Option<World>,
     number: u64,
     line: &[u8],
     out: &mut O,
 ) -> Result<(), Status>
+    requires rule { IsKeepRule (F.pre rule.now.rule) (F.post rule.now.rule) }
     requires ready { IsReady world.old }
     requires short { length line.now ≤ 1048576 }
-    ensures says { (written : List ℕ) × Appends (O.given out.old) (O.given out.new) written × Says result number world.old world.new line.now written }
+    ensures says { (written : List ℕ) × Appends (O.given out.old) (O.given out.new) written
+        × Says result number world.old world.new line.now written }
     ensures later { O.faults out.old ≤ O.faults out.new }
     ensures cause { result ≡ Err Status.WriteFault → Rose (O.faults out.old) (O.faults out.new) }
 {
     let mut text = Vec::new(alloc);
-    match step(alloc, world, line, &mut text) {
+    match step(alloc, rule, world, line, &mut text) {
         Ok(()) => {}
         Err(fault) => return Err(stopped(number, fault)),
     }
@@ -135,10 +153,7 @@ fn stopped(number: u64, fault: LineFault) -> Status
     ensures { result ≡ stopped_by number fault }
 {
     match fault {
-        LineFault::BadLine { .. } => Status::BadScript {
-            line: number,
-            at: 0,
-        },
+        LineFault::BadLine { at } => Status::BadScript { line: number, at },
         LineFault::NoMemory => Status::NoMemory,
     }
 }
@@ -155,19 +170,21 @@ fn writing_end(wrote: Wrote) -> Result<(), Status>
 }
 
 // Takes a line: the first one fixes the world, each other one is an event in it.
-fn step(
+fn step<F: Fn(u64, u64, u64) -> bool>(
     alloc: Global,
+    rule: &KeepRule<F>,
     world: &mut Option<World>,
     line: &[u8],
     text: &mut Vec<u8>,
 ) -> Result<(), LineFault>
+    requires rule { IsKeepRule (F.pre rule.now.rule) (F.post rule.now.rule) }
     requires ready { IsReady world.old }
     requires short { length line.now ≤ 1048576 }
     requires empty { text.old.items ≡ [] }
     ensures { Steps world.old world.new line.now text.new.items result }
 {
     match world {
-        Some(world) => answer(alloc, world, line, text),
+        Some(world) => answer(alloc, rule, world, line, text),
         None => {
             let first = first_world(alloc, line)?;
             *world = Some(first);
@@ -182,31 +199,37 @@ fn first_world(alloc: Global, line: &[u8]) -> Result<World, LineFault>
     ensures { First result line.now }
 {
     let spec = read_world(line)?;
-    if spec.clients != 1 {
-        return Err(LineFault::BadLine { at: 0 });
-    }
-    Ok(World::new(alloc, &spec))
+    let world = World::new(alloc, &spec)?;
+    Ok(world)
 }
 
 // Applies a line's event to the world, and adds the text of what is said of it.
-fn answer(
+fn answer<F: Fn(u64, u64, u64) -> bool>(
     alloc: Global,
+    rule: &KeepRule<F>,
     world: &mut World,
     line: &[u8],
     text: &mut Vec<u8>,
 ) -> Result<(), LineFault>
-    requires good { IsGood world.old }
-    requires world { is_world world.old.spec ≡ true }
-    requires few { world.old.applied < 2 ^ 62 }
+    requires rule { IsKeepRule (F.pre rule.now.rule) (F.post rule.now.rule) }
+    requires world { IsWorld world.old }
+    requires few { world.old.tally.events < 2 ^ 62 }
     requires short { length line.now ≤ 1048576 }
     requires empty { text.old.items ≡ [] }
     ensures { Answers result world.old world.new line.now text.new.items }
 {
     let event = read_line(alloc, world.spec(), line)?;
-    if !is_taken(&event) {
-        return Err(LineFault::BadLine { at: 0 });
+    let said = world.apply(alloc, event, rule);
+    if is_no_memory(&said.reply) {
+        return Err(LineFault::NoMemory);
     }
-    let said = world.apply(alloc, event)?;
     write_reply(&said, text)?;
     Ok(())
+}
+
+// Whether memory ran out in the event.
+pub(crate) fn is_no_memory(reply: &Reply) -> bool
+    ensures { result ≡ is_no_memory reply.now }
+{
+    matches!(reply, Reply::NoMemory)
 }

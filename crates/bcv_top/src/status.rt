@@ -8,8 +8,8 @@ pub enum Status {
     Done,
     /// The words are no command.
     BadWords,
-    /// This line of the script, counted from 1, isn't in the grammar, or its event is none that the world takes; `at` is
-    /// the place in it, 0 for now.
+    /// This line of the script, counted from 1, isn't in the grammar; `at` is the place in it, from 0, of the first word that
+    /// cannot stand.
     BadScript { line: u64, at: u32 },
     /// The input failed.
     ReadFault,

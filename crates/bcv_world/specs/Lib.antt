@@ -1,4 +1,8 @@
-pub mod Given
-pub mod Moves
-pub mod Seen
-pub mod Stands
+pub mod LineEvents
+pub mod Tallies
+pub mod WorldForm
+pub mod Standing
+pub mod LineLaws
+pub mod FirstPlaces
+pub mod AskedOnce
+pub mod UpReplies

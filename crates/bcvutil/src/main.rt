@@ -1,13 +1,14 @@
 //! The program `bcvutil STORE CLIENT COMMAND ..`: runs a command of `bcv_top` over standard input and standard output.
 //!
-//! It stands on `bcv_top` for the command and on `bcv_base` for the source and the sink. For now STORE and CLIENT are both
-//! `-`, an empty one in memory. It ends with the status's code, and where that isn't 0 it prints one line to standard
+//! It stands on `bcv_top` for the command, on `bcv_base` for the source and the sink, and on `bcv_keeprule` for the rule on
+//! deleted blocks. For now STORE and CLIENT are both `-`, an empty one in memory. It ends with the status's code, and where that isn't 0 it prints one line to standard
 //! error, which names the fault. Its contracts say no more: what a terminal or a file takes is outside of any proof.
 #![tactic(auto)]
 
 mod fault;
 
 use bcv_base::{StdSink, StdSource};
+use bcv_keeprule::{KeepRule, retention_passed};
 use bcv_top::{Status, bcv_top};
 use fault::{Fault, Folder};
 use std::env;
@@ -16,32 +17,50 @@ use std::process::ExitCode;
 
 const HELP: &str = "usage: bcvutil STORE CLIENT replay < SCRIPT
 
-Replays a script over an empty store and one client in memory: reads the script from standard
-input and writes one reply line for each event to standard output. STORE and CLIENT are `-`.
-`bcvutil --help` prints this text, `bcvutil --version` the version.
+Replays a script over a world of its own in memory, an empty store and 1 to 16 clients: reads the
+script from standard input and writes one reply line for each event to standard output. STORE and
+CLIENT are `-`. `bcvutil --help` prints this text, `bcvutil --version` the version.
 
 The first line of a script:
-  world 1 BLOCK PAGE RETENTION SLOTS
-    one client; the sizes of blocks and pages in bytes, powers of two from 512; how long a dead
-    block is kept, in seconds; the slots of a cache
-Each further line is an event of client 1, with its reply:
-  1 create          makes the container         task T working 1
-  1 new DB TEXT ..  publishes a database;       task T working N
-                    TEXT is a page: - for zeros, or hex digits for its first bytes
-  1 copy DB NEW     shares all of its blocks    task T working 2
-  1 drop DB         removes its name            task T working 2
-  1 step T          one request of a task       working N, +K done K, page TEXT, or why it ended
-  1 step T fail     a request that fails        store-fault, or unknown ID at a manifest's put
-  1 begin DB        begins a transaction        txn X
-  1 read X PAGE     reads a page in it          task T working 1
-`+K` says that version K was published. An event that is refused answers why in one word:
-  no-database no-txn no-task bad-page too-many busy pending no-container exists page-too-large
-  too-large too-many-databases delete-list-full manifest-too-long store-fault
+  world CLIENTS BLOCK PAGE RETENTION SLOTS
+    the sizes of blocks and pages in bytes, powers of two from 512; how long a dead block is kept,
+    in seconds; the slots of each client's cache
+Each further line is an event. C is a client from 1, X a transaction, T a task, K a number of device
+calls, and I one of the crash images 0 to 4:
+  tick N               time goes on by N seconds          ok
+  C create             makes the container                task T working 1
+  C new DB TEXT ..     publishes a database; TEXT is a    task T working N
+                       page: - for zeros, or hex digits
+                       for its first bytes
+  C commit DB SIZE P=TEXT ..   commits pages locally      ok
+  C upload DB          publishes a database's commits     task T working N
+  C copy DB NEW        shares all of its blocks           task T working 2
+  C drop DB            removes its name                   task T working 2
+  C cleanup            deletes dead blocks                task T working 66
+  C poll               learns of the last version         task T working 1
+  C resolve            asks after a pending publication   task T working 1
+  C step T             one request of a task; with a      working N, polled K, page TEXT, held,
+  C step T fail        third word it fails, or its        +K done K, cleaned N, resolved K,
+  C step T lost        answer is lost                     voided, or why it ended
+  C begin DB           begins a transaction               txn X
+  C read X P           reads a page in it                 page TEXT, or task T working 1
+  C hold X P           keeps a page's block at hand       held, or task T working 1
+  C look X P           a page that is at hand             page TEXT
+  C free X P           lets the page's block go           ok
+  C end X              ends the transaction               ok
+  C revert DB          gives local commits up             ok
+  C list               the databases, each with its       list DB:NUMBER:PAGES:COMMITS ..
+                       version, pages and commits
+  C crash I            the client's disk crashes          crashed
+  C fuse K I           its disk crashes after K calls     ok
+  C fail K             its disk fails after K calls       ok
+  C up                 the client comes up again          up DB:NUMBER:PAGES:COMMITS ..
+`+K` says that version K was published. An event that is refused answers why, in one word or a few.
 Numbers are decimal; words are parted by one space; DB has letters, digits, '.', '_' and '-'.
 
-Exit status: 0 each line was applied; 2 bad words; 3 bad line (its number is on standard error);
-4 and 5 a failed read and write; 6 out of memory; 7 and 8 a STORE or CLIENT that cannot be used;
-13 a line or script that is too long.
+Exit status: 0 each line was applied; 2 bad words; 3 bad line (its number and place are on standard
+error); 4 and 5 a failed read and write; 6 out of memory; 7 and 8 a STORE or CLIENT that cannot be
+used; 13 a line or script that is too long.
 
 Example, a page published and read:
   printf '%s\\n' 'world 1 1024 512 100 2' '1 create' '1 step 1' '1 new a aa' '1 step 1' \\
@@ -86,13 +105,15 @@ fn run(rt: &HostRuntime, words: &[String]) -> Result<(), Fault> {
     }
 }
 
-// Runs a command over standard input and standard output. What was written is flushed before the program ends.
+// Runs a command over standard input and standard output: a block goes once its retention has passed. What was written is
+// flushed before the program ends.
 fn command(rt: &HostRuntime, words: &[String]) -> Result<(), Fault> {
     let mut input = StdSource::new(rt.reader());
     let mut output = StdSink::new(io::writer(rt));
-    let status = bcv_top(rt.alloc(), words, &mut input, &mut output);
+    let rule = KeepRule::new(retention_passed);
+    let ended = bcv_top(rt.alloc(), words, &rule, &mut input, &mut output);
     let flushed = output.inner.flush().is_ok();
-    fault::ended(status, flushed)
+    fault::ended(ended.status, flushed)
 }
 
 fn print(rt: &HostRuntime, text: &str) -> Result<(), Fault> {

@@ -5,6 +5,12 @@
 #![tactic(auto)]
 
 #[cfg(test)]
+mod crashes;
+#[cfg(test)]
+mod rows;
+#[cfg(test)]
 mod script;
+#[cfg(test)]
+mod scripts;
 #[cfg(test)]
 mod top;

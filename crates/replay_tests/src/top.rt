@@ -1,6 +1,7 @@
 ghost use Rattle.std.specs.Prelude.{◌≤◌};
 
 use bcv_base::{MemSink, MemSource};
+use bcv_keeprule::{KeepRule, retention_passed};
 use bcv_top::{Status, bcv_top, replay_top};
 use std::alloc::{AllocError, Global};
 use std::test::Fail;
@@ -14,13 +15,13 @@ const FIRST_REPLIES: &str =
 
 // How a replay ended, and what it wrote.
 #[derive(Drop)]
-struct Ran {
-    status: Status,
-    text: Vec<u8>,
+pub(crate) struct Ran {
+    pub status: Status,
+    pub text: Vec<u8>,
 }
 
 // Replays a script that comes in pieces, from a source and to a sink that fail at these calls.
-fn replayed(
+pub(crate) fn replayed(
     alloc: Global,
     script: &[u8],
     piece: usize,
@@ -39,10 +40,14 @@ fn replayed(
     failing_gives.extend_from_slice(gives)?;
     let mut input = MemSource::new(bytes, piece, failing_takes);
     let mut output = MemSink::new(alloc, failing_gives);
-    let status = bcv_top(alloc, &words, &mut input, &mut output);
+    let rule = KeepRule::new(retention_passed);
+    let ran = bcv_top(alloc, &words, &rule, &mut input, &mut output);
     let mut text = Vec::new(alloc);
     text.extend_from_slice(output.bytes())?;
-    Ok(Ran { status, text })
+    Ok(Ran {
+        status: ran.status,
+        text,
+    })
 }
 
 // How many events the world took that a replay hands back; the sink fails at these calls.
@@ -53,7 +58,8 @@ fn applied(alloc: Global, script: &[u8], gives: &[u64]) -> Result<Option<u64>, A
     failing.extend_from_slice(gives)?;
     let mut input = MemSource::new(bytes, 65536, Vec::new(alloc));
     let mut output = MemSink::new(alloc, failing);
-    match replay_top(alloc, &mut input, &mut output).world {
+    let rule = KeepRule::new(retention_passed);
+    match replay_top(alloc, &rule, &mut input, &mut output).world {
         Some(world) => Ok(Some(world.applied())),
         None => Ok(None),
     }
@@ -63,10 +69,11 @@ fn applied(alloc: Global, script: &[u8], gives: &[u64]) -> Result<Option<u64>, A
 fn worlds(rt: HostRuntime) -> Result<(), Fail> {
     for (script, gives, count) in [
         ("", [0u64], None),
-        ("world 2 1024 512 100 2\n1 create\n", [0], None),
+        ("world 17 1024 512 100 2\n1 create\n", [0], None),
+        ("world 2 1024 512 100 2\n1 create\n", [0], Some(1)),
         ("world 1 1024 512 100 2\n", [0], Some(0)),
         ("world 1 1024 512 100 2\n1 create\n1 step 1", [0], Some(2)),
-        ("world 1 1024 512 100 2\n1 create\n1 list\n", [0], Some(1)),
+        ("world 1 1024 512 100 2\n1 create\n2 list\n", [0], Some(1)),
         (FIRST_READ, [0], Some(10)),
         (FIRST_READ, [2], Some(2)),
     ] {
@@ -114,19 +121,19 @@ const COPIES: &str =
 const COPIES_REPLIES: &str =
     "task 1 working 2\nworking 1\n+3 done 3\ntask 1 working 2\nexists\ntask 1 working 2\nworking 1\n+4 done 4\nno-database\ntask 1 working 3\nbusy\nstore-fault\ntask 1 working 2\nworking 1\nunknown 00000000000000000000000000000009\npending\n";
 
-// A database of three blocks of two pages, read page by page.
+// A database of three blocks of two pages, read page by page: the second page of a block is at hand, so no task is started.
 const SIX_PAGES: &str =
     "1 new b 01 02 03 04 05 06\n1 step 1\n1 step 1\n1 step 1\n1 step 1\n1 step 1\n1 begin b\n1 read 1 1\n1 step 1\n1 read 1 2\n1 step 1\n1 read 1 3\n1 step 1\n1 read 1 4\n1 step 1\n1 read 1 5\n1 step 1\n1 read 1 6\n1 step 1\n1 read 1 7\n";
 
 const SIX_PAGES_REPLIES: &str =
-    "task 1 working 8\nworking 4\nworking 3\nworking 2\nworking 1\n+3 done 3\ntxn 1\ntask 1 working 1\npage 01\ntask 1 working 1\npage 02\ntask 1 working 1\npage 03\ntask 1 working 1\npage 04\ntask 1 working 1\npage 05\ntask 1 working 1\npage 06\nbad-page\n";
+    "task 1 working 8\nworking 4\nworking 3\nworking 2\nworking 1\n+3 done 3\ntxn 1\ntask 1 working 1\npage 01\npage 02\nno-task\ntask 1 working 1\npage 03\npage 04\nno-task\ntask 1 working 1\npage 05\npage 06\nno-task\nbad-page\n";
 
 // A copy has the pages of a database that is removed, whose open transaction goes on reading them.
 const REMOVED: &str =
     "1 begin a\n1 copy a b\n1 step 1\n1 step 1\n1 drop a\n1 step 1\n1 step 1\n1 begin b\n1 read 1 1\n1 step 1\n1 read 2 1\n1 step 1\n";
 
 const REMOVED_REPLIES: &str =
-    "txn 1\ntask 1 working 2\nworking 1\n+3 done 3\ntask 1 working 2\nworking 1\n+4 done 4\ntxn 2\ntask 1 working 1\npage aa\ntask 1 working 1\npage aa\n";
+    "txn 1\ntask 1 working 2\nworking 1\n+3 done 3\ntask 1 working 2\nworking 1\n+4 done 4\ntxn 2\ntask 1 working 1\npage aa\npage aa\nno-task\n";
 
 #[test]
 fn publications(rt: HostRuntime) -> Result<(), Fail> {
@@ -162,10 +169,10 @@ fn tasks(rt: HostRuntime) -> Result<(), Fail> {
         text.push_str(format!(in alloc; "task {number} working 1\n")?.as_str())?;
     }
     lines.push_str(
-        "1 read 1 1\n1 create\n1 step 5\n1 step 7 fail\n1 read 1 1\n1 create\n1 step 7\n1 step 5\n",
+        "1 read 1 1\n1 create\n1 step 7 fail\n1 step 5\n1 read 1 1\n1 create\n1 step 7\n1 step 5\n",
     )?;
     text.push_str(
-        "too-many\ntoo-many\npage aa\nstore-fault\ntask 5 working 1\ntask 7 working 1\nexists\npage aa\n",
+        "too-many\ntoo-many\nstore-fault\npage aa\npage aa\ntask 5 working 1\nno-task\nexists\n",
     )?;
     assert!(rt; says(alloc, lines.as_str(), text.as_str())?);
     Ok(())
@@ -178,8 +185,8 @@ fn scripts(rt: HostRuntime) -> Result<(), Fail> {
         ("world 1 1024 512 100 2\n", Status::Done, ""),
         ("world 1 1024 512 100 2", Status::Done, ""),
         (
-            "world 2 1024 512 100 2\n",
-            Status::BadScript { line: 1, at: 0 },
+            "world 17 1024 512 100 2\n",
+            Status::BadScript { line: 1, at: 6 },
             "",
         ),
         (
@@ -208,29 +215,30 @@ fn scripts(rt: HostRuntime) -> Result<(), Fail> {
             "task 1 working 1\n+1 done 1\ntask 1 working 2\nworking 1\n+2 done 2\ntask 1 working 2\nexists\n",
         ),
         (
-            "world 1 1024 512 100 2\n1 create\n1 list\n1 step 1\n",
+            "world 1 1024 512 100 2\ntick 1\n1 list\n1 create\n1 step 1 lost\n1 list\n1 crash 0\n1 step 1\n1 up\n",
+            Status::Done,
+            "ok\nlist\ntask 1 working 1\n+1 unknown 00000000000000000000000000000002\nlist pending\ncrashed\ndown\nup pending\n",
+        ),
+        // Two clients, each with what it knows.
+        (
+            "world 2 1024 512 100 2\n1 create\n1 step 1\n1 new a aa\n1 step 1\n1 step 1\n1 step 1\n2 begin a\n2 poll\n2 step 1\n2 begin a\n2 read 1 1\n2 step 1\n",
+            Status::Done,
+            "task 1 working 1\n+1 done 1\ntask 1 working 3\nworking 2\nworking 1\n+2 done 2\nno-database\ntask 1 working 1\npolled 2\ntxn 1\ntask 1 working 1\npage aa\n",
+        ),
+        // Lines that aren't in the grammar, each with the place of the first word that cannot stand.
+        (
+            "world 1 1024 512 100 2\n1 create\n1 step 1\n1 commit a 1 0=aa\n",
+            Status::BadScript { line: 4, at: 13 },
+            "task 1 working 1\n+1 done 1\n",
+        ),
+        (
+            "world 1 1024 512 100 2\n1 create\n2 list",
             Status::BadScript { line: 3, at: 0 },
             "task 1 working 1\n",
         ),
-        // A line that isn't in the grammar, and lines that are, of events that the world doesn't take.
         (
-            "world 1 1024 512 100 2\n1 create\n1 step 1\n1 commit a 1 0=aa\n",
-            Status::BadScript { line: 4, at: 0 },
-            "task 1 working 1\n+1 done 1\n",
-        ),
-        (
-            "world 1 1024 512 100 2\n1 create\n1 step 1\n1 commit a 1 1=aa\n",
-            Status::BadScript { line: 4, at: 0 },
-            "task 1 working 1\n+1 done 1\n",
-        ),
-        (
-            "world 1 1024 512 100 2\ntick 1\n",
-            Status::BadScript { line: 2, at: 0 },
-            "",
-        ),
-        (
-            "world 1 1024 512 100 2\n1 create\n1 step 1 lost\n",
-            Status::BadScript { line: 3, at: 0 },
+            "world 1 1024 512 100 2\n1 create\n1 step\n",
+            Status::BadScript { line: 3, at: 6 },
             "task 1 working 1\n",
         ),
         (
@@ -263,15 +271,16 @@ fn words(rt: HostRuntime) -> Result<(), Fail> {
     let mut input = MemSource::new(Vec::new(alloc), 1, Vec::new(alloc));
     let mut output = MemSink::new(alloc, Vec::new(alloc));
     let mut words = Vec::new(alloc);
+    let rule = KeepRule::new(retention_passed);
     assert_eq!(rt;
-        bcv_top(alloc, &words, &mut input, &mut output),
+        bcv_top(alloc, &words, &rule, &mut input, &mut output).status,
         Status::BadWords
     );
     words.push(format!(in alloc; "replay")?)?;
     words.push(format!(in alloc; "replay")?)?;
     let mut again = MemSource::new(Vec::new(alloc), 1, Vec::new(alloc));
     assert_eq!(rt;
-        bcv_top(alloc, &words, &mut again, &mut output),
+        bcv_top(alloc, &words, &rule, &mut again, &mut output).status,
         Status::BadWords
     );
     Ok(())

@@ -4,7 +4,8 @@ use Rattle.bcv_top.specs.declared.status.Status.TheVariants as status
 use Rattle.bcv_top.proofs.Causes.{line_end, last_end, caused, caused_by_input, end_line_end, end_caused}
 use Rattle.bcv_top.specs.Headline.{HasCauses}
 use Rattle.bcv_top.specs.Led.{kept_at}
-use Rattle.bcv_top.proofs.Played.{Ended, at_end, at_words, at_causes, played_none, played_few, played_ready, ends_unstarted, ends_limit, ends_fault, ends_memory, ends_line, ends_last, ends_end, goes_on, line_is, last_is}
+use Rattle.bcv_top.proofs.Played.{Ended, at_end, at_words, at_causes, played_none, played_few, played_ready, ends_unstarted, ends_limit, ends_fault, ends_memory, ends_line, ends_last, ends_end, goes_on}
+use Rattle.bcv_lines.proofs.LineLists.{line_is, last_is}
 use Rattle.std.specs.Io.KnownBytes.{IsAtEnd}
 use Rattle.std.specs.Prelude.{◌++◌}
 use Rattle.bcv_top.proofs.replay.replay_top.Goals as goal

@@ -1,0 +1,3 @@
+pub mod LineLists
+pub mod Newlines
+pub mod Reader
