@@ -61,3 +61,7 @@ pub mod AskNames
 pub mod SlotsKept
 pub mod CallFaults
 pub mod WorkFlights
+pub mod RangePieces
+pub mod RangeTalks
+pub mod RangeJoins
+pub mod RangeSteps

@@ -26,3 +26,7 @@ pub mod AskCalls
 pub mod TxnBegins
 pub mod ClientUp
 pub mod NewUploads
+pub mod Talk
+pub mod RangeAsks
+pub mod RangeParts
+pub mod RangeReads

@@ -9,6 +9,7 @@
 #![tactic(auto)]
 
 mod ask_form;
+mod byte_ranges;
 mod call;
 mod client;
 mod fetch;
@@ -33,6 +34,7 @@ mod task_list;
 mod trims;
 
 pub use bcv_risen::RiseFault as UpFault;
+pub use byte_ranges::ReadAt;
 pub use client::Client;
 pub use job::{Access, Job};
 pub use rising::Up;

@@ -1,0 +1,10 @@
+pub mod TalkJoins
+pub mod TalkGrowth
+pub mod TalkRuns
+pub mod SideRuns
+pub mod TalkFits
+pub mod TalkEnds
+pub mod RunNames
+pub mod TalkStarts
+pub mod TalkAlone
+pub mod TalkTotals

@@ -1,0 +1,11 @@
+pub mod TalkJoins
+pub mod Runs
+pub mod TalkRuns
+pub mod TalkGrowth
+pub mod SideRuns
+pub mod TalkFits
+pub mod TalkEnds
+pub mod RunNames
+pub mod TalkStarts
+pub mod TalkAlone
+pub mod TalkTotals
