@@ -52,8 +52,11 @@ impl Names for CountNames {
 
     fn draw(&mut self) -> Draw
         ensures draws { Draws (counted self.old) (counted self.new) result }
-        ensures next { self.old.count < 2 ^ 128 - 1 → (result ≡ Draw.Drawn (numbered (self.old.count + 1))) × (self.new ≡ record { count = self.old.count + 1; faults = 0 }) }
-        ensures ended { self.old.count ≡ 2 ^ 128 - 1 → (result ≡ Draw.Failed) × (self.new ≡ record self.old { faults = one_more self.old.faults }) }
+        ensures next { self.old.count < 2 ^ 128 - 1
+            → (result ≡ Draw.Drawn (numbered (self.old.count + 1)))
+            × (self.new ≡ record { count = self.old.count + 1; faults = 0 }) }
+        ensures ended { self.old.count ≡ 2 ^ 128 - 1 → (result ≡ Draw.Failed)
+            × (self.new ≡ record self.old { faults = one_more self.old.faults }) }
         ensures within { self.old.count < 2 ^ 128 }
     {
         if self.count == u128::MAX {

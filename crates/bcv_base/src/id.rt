@@ -36,7 +36,8 @@ impl Id16 {
 
     /// The id that a text of 32 hex digits in lower case names, or `None` where it names none.
     pub fn read_hex(text: &[u8]) -> Option<Id16>
-        ensures { MatchOption result ((i : Id16) → IsId i → text.now ≡ hex_of i.0 → ⊥) (λ i. IsId i × (text.now ≡ hex_of i.0)) }
+        ensures { MatchOption result ((i : Id16) → IsId i → text.now ≡ hex_of i.0
+            → ⊥) (λ i. IsId i × (text.now ≡ hex_of i.0)) }
     {
         // Upper case is read too, and told apart by the text of what was read.
         let id = decoded(text)?;

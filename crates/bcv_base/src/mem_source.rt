@@ -35,7 +35,12 @@ impl MemSource {
     /// and move none.
     pub fn new(bytes: Vec<u8>, piece: usize, fails: Vec<u64>) -> MemSource
         requires { 1 ≤ piece }
-        ensures { result ≡ record { left = bytes.items; piece = piece; ended = false; plan = planned fails.items } }
+        ensures { result ≡ record {
+          left = bytes.items;
+          piece = piece;
+          ended = false;
+          plan = planned fails.items;
+        } }
     {
         MemSource {
             bytes,

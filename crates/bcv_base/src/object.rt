@@ -47,7 +47,9 @@ impl ObjName {
 
     /// The object that a text names, or `None` where it names none.
     pub fn read(text: &[u8]) -> Option<ObjName>
-        ensures { MatchOption result ((object : ObjName) → IsObject object → text.now ≡ object_text object → ⊥) (λ object. IsObject object × (text.now ≡ object_text object)) }
+        ensures { MatchOption result ((object : ObjName) → IsObject object
+            → text.now ≡ object_text object → ⊥) (λ object. IsObject object
+            × (text.now ≡ object_text object)) }
     {
         let stem = stem_of(text)?;
         if stem == b"manifest".as_slice() {
@@ -75,7 +77,8 @@ fn ended(stem: &[u8]) -> NameText
 
 // A text without the ending of every object's name, or `None` where it ends otherwise.
 fn stem_of(text: &[u8]) -> Option<&[u8]>
-    ensures { MatchOption result ((stem : List ℕ) → text.now ≡ stem ++ codes ".bcv" → ⊥) (λ stem. text.now ≡ stem.now ++ codes ".bcv") }
+    ensures { MatchOption result ((stem : List ℕ) → text.now ≡ stem ++ codes ".bcv"
+        → ⊥) (λ stem. text.now ≡ stem.now ++ codes ".bcv") }
 {
     text.strip_suffix(ENDING)
 }

@@ -20,7 +20,8 @@ pub fn page_size_of(front: &[u8]) -> Option<u32>
 
 // Whether these bytes are the header of a database file, as far as its page size.
 fn begins_a_database(front: &[u8]) -> bool
-    ensures header { result ≡ (nat_le 18 (length front.now) && bytes_eq (take 16 front.now) header_text) }
+    ensures header { result ≡ (nat_le 18 (length front.now)
+        && bytes_eq (take 16 front.now) header_text) }
     ensures long { IsTrue result → 18 ≤ length front.now }
 {
     if front.len() < 18 {

@@ -34,9 +34,11 @@ impl<W: Write> Sink for StdSink<W> {
     // A write that a signal cut short is made again, and is no fault.
     fn give(&mut self, bytes: &[u8]) -> Gave
         requires { 0 < length bytes.now }
-        ensures bytes { Gives (W.contents self.old.inner) (W.contents self.new.inner) result bytes.now }
+        ensures bytes { Gives (W.contents self.old.inner)
+            (W.contents self.new.inner) result bytes.now }
         ensures cause { GiveCause self.old.faults self.new.faults result }
-        ensures unmoved { result ≡ Gave.Failed → Keeps (W.contents self.old.inner) (W.contents self.new.inner) }
+        ensures unmoved { result ≡ Gave.Failed
+            → Keeps (W.contents self.old.inner) (W.contents self.new.inner) }
     {
         for _ in 0..u64::MAX {
             match self.inner.write(bytes) {

@@ -40,7 +40,11 @@ impl BlockCache {
     /// memory when it is filled.
     pub fn new(alloc: Global, slots: u16, block: u32) -> Result<BlockCache, AllocError>
         requires { 0 < block }
-        ensures empty { IfOk result (λ c. c ≡ record { entries = []; most = min slots (2 ^ 30 / block); block = block }) }
+        ensures empty { IfOk result (λ c. c ≡ record {
+          entries = [];
+          most = min slots (2 ^ 30 / block);
+          block = block;
+        }) }
         ensures cache { IfOk result IsCache }
     {
         let most = u32::from(slots).min(MOST_BYTES / block) as u16;
@@ -104,7 +108,8 @@ impl BlockCache {
         requires { IsPinnable slot self.old.entries }
         ensures pin { option_map pin_on (entry_in slot self.old.entries) ≡ Some result }
         ensures entries { self.new ≡ record self.old { entries = map (counted_up slot) self.old.entries } }
-        ensures slots { (k : ℕ) → entry_in k self.new.entries ≡ option_map (counted_up slot) (entry_in k self.old.entries) }
+        ensures slots { (k : ℕ) → entry_in k self.new.entries
+            ≡ option_map (counted_up slot) (entry_in k self.old.entries) }
         ensures held { IsHeld result self.new.entries }
         ensures cache { IsCache self.new }
     {
@@ -117,7 +122,8 @@ impl BlockCache {
     pub fn unpin(&mut self, pin: Pin)
         requires { IsHeld pin self.old.entries }
         ensures entries { self.new ≡ record self.old { entries = map (counted_down pin.slot) self.old.entries } }
-        ensures slots { (k : ℕ) → entry_in k self.new.entries ≡ option_map (counted_down pin.slot) (entry_in k self.old.entries) }
+        ensures slots { (k : ℕ) → entry_in k self.new.entries
+            ≡ option_map (counted_down pin.slot) (entry_in k self.old.entries) }
         ensures cache { IsCache self.new }
     {
         let Pin { slot, id: _ } = pin;
@@ -127,7 +133,8 @@ impl BlockCache {
     /// The bytes of a pinned block, which are lent and not copied.
     pub fn bytes(&self, pin: &Pin) -> &[u8]
         requires { IsHeld pin.now self.now.entries }
-        ensures bytes { option_map (λ e. e.bytes) (entry_in pin.now.slot self.now.entries) ≡ Some result.now }
+        ensures bytes { option_map (λ e. e.bytes) (entry_in pin.now.slot self.now.entries)
+            ≡ Some result.now }
         ensures cache { IsCache self.now }
     {
         &self.slots[pin.slot.index()].bytes
@@ -135,7 +142,8 @@ impl BlockCache {
     /// The bytes of the block in a slot that is in use, lent without a pin and without a copy.
     pub fn lend(&self, slot: Slot) -> &[u8]
         requires { IsInUse slot self.now.entries }
-        ensures bytes { option_map (λ e. e.bytes) (entry_in slot self.now.entries) ≡ Some result.now }
+        ensures bytes { option_map (λ e. e.bytes) (entry_in slot self.now.entries)
+            ≡ Some result.now }
         ensures cache { IsCache self.now }
     {
         &self.slots[slot.index()].bytes

@@ -14,7 +14,8 @@ use std::alloc::AllocError;
 /// The place of the last entry that no pin holds, looked for from the end.
 pub(crate) fn last_unpinned(places: &LruCache<Id16, Slot>, slots: &[Held]) -> Option<(Id16, Slot)>
     requires { All (λ p. p.1 < length slots.now) places.now.entries }
-    ensures { option_map (entry_at slots.now) result ≡ last_unpinned (seen slots.now places.now.entries) }
+    ensures { option_map (entry_at slots.now) result
+        ≡ last_unpinned (seen slots.now places.now.entries) }
 {
     let mut rest = places.iter();
     while let Some((id, slot)) = rest.next_back() {
@@ -29,7 +30,8 @@ pub(crate) fn last_unpinned(places: &LruCache<Id16, Slot>, slots: &[Held]) -> Op
 fn put_first(places: &mut LruCache<Id16, Slot>, id: Id16, slot: Slot) -> Result<(), AllocError>
     requires absent { lookup (id_eq id) places.old.entries ≡ None }
     requires spare { length places.old.entries < places.old.cap }
-    ensures ok { OnOk result (places.new ≡ lru_cache ((id, slot) ∷ places.old.entries) places.old.cap) }
+    ensures ok { OnOk result (places.new ≡ lru_cache
+        ((id, slot) ∷ places.old.entries) places.old.cap) }
     ensures err { OnErr result (places.new ≡ places.old) }
 {
     match places.put(id, slot) {
@@ -49,8 +51,10 @@ pub(crate) fn fill_free(
     requires absent { lookup (id_eq id) places.old.entries ≡ None }
     requires spare { length places.old.entries < places.old.cap }
     ensures slot { IfOk result (λ s. s ≡ vec_len slots.old) }
-    ensures places { IfOk result (λ s. places.new ≡ lru_cache ((id, s) ∷ places.old.entries) places.old.cap) }
-    ensures slots { IfOk result (λ _. slots.new.items ≡ slots.old.items ++ record { id = id; count = 0; bytes = bytes } ∷ []) }
+    ensures places { IfOk result (λ s. places.new
+        ≡ lru_cache ((id, s) ∷ places.old.entries) places.old.cap) }
+    ensures slots { IfOk result (λ _. slots.new.items
+        ≡ slots.old.items ++ record { id = id; count = 0; bytes = bytes } ∷ []) }
     ensures back { IfErr result (λ b. b ≡ bytes) }
     ensures same_places { IfErr result (λ _. places.new ≡ places.old) }
     ensures same_slots { IfErr result (λ _. slots.new.items ≡ slots.old.items) }
@@ -89,8 +93,10 @@ pub(crate) fn fill_used(
     requires absent { lookup (id_eq id) places.old.entries ≡ None }
     requires spare { length places.old.entries < places.old.cap }
     ensures slot { IfOk result (λ s. s ≡ old.1) }
-    ensures places { IfOk result (λ s. places.new ≡ lru_cache (remove_entry (id_eq old.0) ((id, s) ∷ places.old.entries)) places.old.cap) }
-    ensures slots { IfOk result (λ s. slots.new.items ≡ slice_set slots.old.items s (record { id = id; count = 0; bytes = bytes })) }
+    ensures places { IfOk result (λ s. places.new
+        ≡ lru_cache (remove_entry (id_eq old.0) ((id, s) ∷ places.old.entries)) places.old.cap) }
+    ensures slots { IfOk result (λ s. slots.new.items
+        ≡ slice_set slots.old.items s (record { id = id; count = 0; bytes = bytes })) }
     ensures back { IfErr result (λ b. b ≡ bytes) }
     ensures same_places { IfErr result (λ _. places.new ≡ places.old) }
     ensures same_slots { IfErr result (λ _. slots.new.items ≡ slots.old.items) }

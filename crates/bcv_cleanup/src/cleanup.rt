@@ -87,7 +87,8 @@ impl Cleanup {
 
     // The entries that are still to be deleted.
     fn deletions_left(&self) -> usize
-        ensures left { result ≡ deletions_left self.now.publish.latest (taken_ids self.now) self.now.deleted }
+        ensures left { result ≡ deletions_left self.now.publish.latest
+            (taken_ids self.now) self.now.deleted }
         ensures few { result ≤ 64 }
     {
         let taken = self.taken().len();

@@ -16,7 +16,8 @@ impl Cleanup {
         requires running { self.old.published ≡ false }
         requires kept { is_none self.old.publish.latest ≡ false }
         requires not_ready { is_ready self.old ≡ false }
-        ensures deletes { DeletesNext S.told (S.shown store.old) (S.shown store.new) self.old result self.new }
+        ensures deletes { DeletesNext S.told (S.shown store.old)
+            (S.shown store.new) self.old result self.new }
         ensures reached { S.reaches store.old store.new }
         ensures task { IsTask self.new }
     {

@@ -159,7 +159,8 @@ fn more_of<F: Fn(u64, u64, u64) -> bool>(
     before: bool,
 ) -> bool
     requires rule { IsKeepRule (F.pre rule.now.rule) (F.post rule.now.rule) }
-    ensures { MoreOf (F.post rule.now.rule) (option_copied latest.entry) moment ids.now before result }
+    ensures { MoreOf (F.post rule.now.rule) (option_copied latest.entry) moment ids.now
+        before result }
 {
     match latest {
         Some(latest) => {

@@ -29,7 +29,8 @@ impl Cleanup {
             MayPut mine (S.shown store.old).log self.old read →
             ManifestPutSound S.told mine (S.shown store.old) (S.shown store.new)
             self.old.publish read self.old.edit moment result self.new.publish)) }
-        ensures complete { MatchOption self.old.publish.latest ⊥ (λ read. CleansAll self.old read result self.new) }
+        ensures complete { MatchOption self.old.publish.latest ⊥
+            (λ read. CleansAll self.old read result self.new) }
         ensures reached { S.reaches store.old store.new }
         ensures falls { result ≡ PutEnd.Refused → IsBelow self.new self.old }
         ensures left { result ≡ PutEnd.Refused → left_of self.new ≡ 2 }

@@ -29,8 +29,10 @@ impl Cleanup {
         requires running { IsRunning self.old }
         requires not_ready { is_ready self.old ≡ false }
         requires rule { IsKeepRule (F.pre rule.now.rule) (F.post rule.now.rule) }
-        ensures leaves { WorkLeaves (F.post rule.now.rule) self.old.publish.latest seen.now self.old result self.new }
-        ensures works { TaskWorks S.told (S.shown store.old) (S.shown store.new) (C.shown clock.old) (C.shown clock.new)
+        ensures leaves { WorkLeaves (F.post rule.now.rule) self.old.publish.latest seen.now self.old
+            result self.new }
+        ensures works { TaskWorks S.told (S.shown store.old) (S.shown store.new) (C.shown clock.old)
+            (C.shown clock.new)
             seen.now self.old result self.new }
         ensures reached { S.reaches store.old store.new }
         ensures falls { result ≡ Work.More → IsBelow self.new self.old }

@@ -25,7 +25,8 @@ pub(crate) fn take_released<F: Fn(u64, u64, u64) -> bool>(
     requires rule { IsKeepRule (F.pre rule.now.rule) (F.post rule.now.rule) }
     requires empty { ids.old.items ≡ [] }
     requires room { most_cleaned ≤ vec_capacity ids.old }
-    ensures picks { PicksFirst (F.post rule.now.rule) moment retention dead.now result ids.new.items }
+    ensures picks { PicksFirst (F.post rule.now.rule) moment retention dead.now result
+        ids.new.items }
 {
     for place in 0..dead.len() {
         if ids.len() == MOST_CLEANED {
@@ -52,7 +53,8 @@ pub(crate) fn releases_more<F: Fn(u64, u64, u64) -> bool>(
     ids: &[Id16],
 ) -> bool
     requires rule { IsKeepRule (F.pre rule.now.rule) (F.post rule.now.rule) }
-    ensures more { (released : Dead → Bool) → IsTestOf (F.post rule.now.rule) moment retention released →
+    ensures more { (released : Dead → Bool)
+        → IsTestOf (F.post rule.now.rule) moment retention released →
         result ≡ has_more released ids.now dead.now }
     ensures none { dead.now ≡ [] → result ≡ false }
 {

@@ -92,7 +92,7 @@ module _ {D : Type 0} {g : _} (told : DiskTold) (shown : D → DiskShown)
 -- ---- a step before a put
 
 -- a task's publication has an id
-task_is_id : (mine : List Id16) (writer : Id16) (k : Kept) (log : List Entry) (view : List Writes) (t : PublishTask) → IsRunning t → FitsJob mine writer k log (job_of view t) → IsId (id_of t)
+pub task_is_id : (mine : List Id16) (writer : Id16) (k : Kept) (log : List Entry) (view : List Writes) (t : PublishTask) → IsRunning t → FitsJob mine writer k log (job_of view t) → IsId (id_of t)
 task_is_id mine writer k log view (task.Create c) running fits = fits.1
 task_is_id mine writer k log view (task.Copy id s) running fits = subst IsId (sym running.0) fits.1.is_id
 task_is_id mine writer k log view (task.Upload id s) running fits = subst IsId (sym running.0) fits.1.is_id

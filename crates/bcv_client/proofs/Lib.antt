@@ -61,6 +61,10 @@ pub mod AskNames
 pub mod SlotsKept
 pub mod CallFaults
 pub mod WorkFlights
+pub mod CallMoments
+pub mod TasksFall
+pub mod Descent
+pub mod Caching
 pub mod RangePieces
 pub mod RangeTalks
 pub mod RangeJoins

@@ -1,5 +1,5 @@
 -- The read of a range from the reads of its pages.
-use Rattle.std.proofs.Common.{◌≡◌, ◌∙◌, ◌≢◌, ◌⊎◌, ◌≤◌, ◌+◌, ℕ, zero, suc, Bool, true, false, List, [], ◌∷◌, ◌++◌, take, drop, length, slice_get, Option, Some, None, Result, Ok, Err, option_map, refl, sym, ap, subst, arith, append_assoc, append-nil, inl, inr}
+use Rattle.std.proofs.Common.{◌≡◌, ◌∙◌, ◌≢◌, ◌⊎◌, ◌≤◌, ◌+◌, ℕ, zero, suc, false, List, [], ◌∷◌, ◌++◌, take, drop, length, slice_get, Option, Some, None, Result, Ok, Err, option_map, refl, sym, ap, subst, arith, append_assoc, append-nil, inl, inr}
 use Rattle.std.specs.List.{sum_by}
 use Rattle.std.proofs.lemmas.List.{take_all}
 use Rattle.bcv_base.specs.Faults.{Rose}
@@ -12,9 +12,9 @@ use Rattle.bcv_transaction.specs.Open.{txn_at}
 use Rattle.bcv_vfs.specs.declared.Piece.{Piece}
 use Rattle.bcv_vfs.specs.declared.Span.{Span}
 use Rattle.bcv_vfs.specs.Pieces.{bytes_there, pieces_of}
-use Rattle.bcv_client.specs.RangeAsks.{BytesRefused, PageAsked, PageRefused, PagesCome, RangeAnswers, is_page, piece_bytes, range_bytes}
+use Rattle.bcv_client.specs.RangeAsks.{BytesRefused, PageAsked, PageRefused, RangeAnswers, is_page, piece_bytes}
 use Rattle.bcv_client.specs.RangeParts.{PieceEnds, RangeEnds}
-use Rattle.bcv_client.specs.RangeReads.{FailsAs, OnlyCached, PageReads, PieceReads, PiecesRead, PiecesRefused, PiecesTried, RangeOf, RangeReads, TalksAlone, span_of}
+use Rattle.bcv_client.specs.RangeReads.{FailsAs, OnlyCached, PieceReads, PiecesRead, PiecesRefused, PiecesTried, RangeOf, RangeReads, TalksAlone, span_of}
 use Rattle.bcv_client.specs.Talk.{Exchange}
 use Rattle.bcv_client.specs.Transactions.{opened_as}
 use Rattle.bcv_client.specs.declared.byte_ranges.ReadAt.{ReadAt}

@@ -1,16 +1,15 @@
 -- The pages of pieces, one more at a time; the bytes that they are, and the buffer that these fill.
-use Rattle.std.proofs.Common.{◌≡◌, ◌∙◌, ◌+◌, ◌-◌, ◌≤◌, ℕ, zero, suc, min, List, [], ◌∷◌, ◌++◌, length, take, drop, slice_get, Option, Some, None, refl, sym, ap, subst, arith, append_assoc, append-nil, length-append, inl, inr}
+use Rattle.std.proofs.Common.{◌≡◌, ◌∙◌, ◌+◌, ◌-◌, ◌≤◌, ℕ, zero, suc, min, List, [], ◌∷◌, ◌++◌, length, take, drop, slice_get, Some, refl, sym, ap, subst, arith, append_assoc, append-nil, length-append}
 use Rattle.std.specs.List.{sum_by}
 use Rattle.std.proofs.Math.Seq.{drop-append-add}
 use Rattle.std.proofs.lemmas.List.{drop-replicate, length-drop, length-replicate, length-take, take_all}
 use Rattle.std.proofs.lemmas.List.Sums.{sum_by-cons}
 use Rattle.std.proofs.lemmas.Option.{same_Some}
 use Rattle.bcv_base.specs.Image.{Page, zeros}
-use Rattle.bcv_model.specs.declared.reply.Reply.{Reply}
 use Rattle.bcv_model.specs.declared.reply.Reply.TheVariants as reply
 use Rattle.bcv_vfs.specs.declared.Piece.{Piece}
 use Rattle.bcv_vfs.specs.declared.Span.{Span}
-use Rattle.bcv_vfs.specs.Pieces.{bytes_there, file_len, pieces_of}
+use Rattle.bcv_vfs.specs.Pieces.{bytes_there, pieces_of}
 use Rattle.bcv_client.specs.RangeAsks.{PageAsked, PagesCome, RangeComes, buffer, piece_bytes, range_bytes}
 use Rattle.bcv_client.specs.Talk.{Exchange}
 

@@ -1,17 +1,12 @@
 -- The read of one page over a client, which may start a task, and the step of that task.
-use Rattle.std.proofs.Common.{◌≡◌, ◌∙◌, ◌≢◌, ◌==◌, ◌||◌, ◌&&◌, ◌≤◌, ◌<◌, ℕ, nat_le, Bool, true, false, not, cond, List, [], ◌∷◌, ◌++◌, filter, find, Option, Some, None, option_map, MatchOption, Ok, Err, Result, refl, sym, ap, subst, arith, inl, inr}
+use Rattle.std.proofs.Common.{◌≡◌, ◌∙◌, ◌≢◌, ◌==◌, ◌||◌, ◌&&◌, ◌≤◌, ◌<◌, ℕ, nat_le, Bool, true, false, not, cond, List, [], ◌∷◌, ◌++◌, find, Option, Some, None, option_map, MatchOption, Ok, Err, refl, sym, ap, subst, arith, inl, inr}
 use Rattle.std.specs.Int.{is_power_of_two}
 use Rattle.std.proofs.lemmas.Bool.{eq-eqb, leb-true}
 use Rattle.std.proofs.lemmas.Option.{same_Some}
 use Rattle.bcv_base.specs.declared.id.Id16.{Id16}
-use Rattle.bcv_base.specs.Drawn.{NamesShown}
-use Rattle.bcv_base.specs.Faults.{Rose}
-use Rattle.bcv_base.specs.Image.{Page}
-use Rattle.bcv_base.specs.Moments.{ClockShown}
 use Rattle.bcv_cache.specs.Cache.{has_room}
 use Rattle.bcv_cache.specs.Entry.{Blocks}
 use Rattle.bcv_disk.specs.DiskShown.{DiskShown, DiskTold}
-use Rattle.bcv_ledger.specs.declared.ledger.Ledger.{Ledger}
 use Rattle.bcv_machine.specs.Reading.{Fetches}
 use Rattle.bcv_machine.specs.State as m
 use Rattle.bcv_machine.specs.Step.{is_task}
@@ -42,15 +37,15 @@ use Rattle.bcv_transaction.specs.StepCalls.{ComesAs, IsAgain, GoesAfter, GoesOn,
 use Rattle.bcv_transaction.proofs.MachinePages.{one_of}
 use Rattle.bcv_vfs.specs.declared.Span.{Span}
 use Rattle.bcv_client.specs.CallFaults.{is_io_fault}
-use Rattle.bcv_client.specs.ClientForm.{FetchInForm, IsPageOf}
+use Rattle.bcv_client.specs.ClientForm.{IsPageOf}
 use Rattle.bcv_client.specs.Events.{Locally}
 use Rattle.bcv_client.specs.Falls.{FallsJob}
 use Rattle.bcv_client.specs.FetchOver.{ClientFetches, stepped_reply}
-use Rattle.bcv_client.specs.RangeAsks.{PageAsked, exchange}
-use Rattle.bcv_client.specs.RangeReads.{FailsAs, OnlyCached, PageReads, StepReads, point, span_of}
+use Rattle.bcv_client.specs.RangeAsks.{exchange}
+use Rattle.bcv_client.specs.RangeReads.{PageReads, StepReads, span_of}
 use Rattle.bcv_client.specs.NewTasks.{is_busy}
 use Rattle.bcv_client.specs.Steps.{EndsJob}
-use Rattle.bcv_client.specs.Talk.{Exchange, Exchanged}
+use Rattle.bcv_client.specs.Talk.{Exchange}
 use Rattle.bcv_client.specs.TaskStarts.{StartsLast}
 use Rattle.bcv_client.specs.TaskParts.{seen_access}
 use Rattle.bcv_client.specs.TaskTaken.{CanStep, TakesTask, TaskOut}
@@ -60,7 +55,6 @@ use Rattle.bcv_client.specs.declared.job.Access.TheVariants as access
 use Rattle.bcv_client.specs.declared.job.Job.{Job}
 use Rattle.bcv_client.specs.declared.job.Job.TheVariants as job
 use Rattle.bcv_client.proofs.AskReplies.{page_inside}
-use Rattle.bcv_client.proofs.RangeJoins.{rose_later}
 use Rattle.bcv_client.proofs.RangeTalks.{alone_join, alone_one, read_exchanged, step_exchanged}
 use Rattle.bcv_client.proofs.SlotsKept.{page_slots, steps_slots}
 

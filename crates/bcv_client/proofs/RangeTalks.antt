@@ -1,5 +1,5 @@
 -- The talk of a page's read: the read, and the step of the task that it starts, as exchanges.
-use Rattle.std.proofs.Common.{◌≡◌, ◌∙◌, ◌≢◌, ℕ, Bool, true, false, List, [], ◌∷◌, ◌++◌, Option, Some, None, refl, sym, ap, subst, arith, inl, inr}
+use Rattle.std.proofs.Common.{◌∙◌, ℕ, List, [], ◌∷◌, ◌++◌, refl, ap, subst}
 use Rattle.bcv_base.specs.Drawn.{NamesShown}
 use Rattle.bcv_base.specs.Moments.{ClockShown}
 use Rattle.bcv_disk.specs.DiskShown.{DiskShown, DiskTold}

@@ -16,12 +16,15 @@ pub mod Steps
 pub mod PollOver
 pub mod ResolveOver
 pub mod Falls
+pub mod Descent
+pub mod Caching
 pub mod FetchOver
 pub mod PublicationOver
 pub mod Planned
 pub mod TaskRequests
 pub mod PublicationPut
 pub mod TaskCalls
+pub mod AnyMoment
 pub mod AskCalls
 pub mod TxnBegins
 pub mod ClientUp

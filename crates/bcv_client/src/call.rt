@@ -3,8 +3,11 @@ ghost use Rattle.std.specs.Prelude.{◌≡◌, false, unwrap_or};
 ghost use Rattle.std.specs.Option.{option_map};
 ghost use Rattle.bcv_keeprule.specs.Retention.{IsKeepRule};
 ghost use Rattle.bcv_machine.specs.Reading.{Looks};
+ghost use Rattle.bcv_client.specs.AnyMoment.{CallMoments, NotesOfAsk};
 ghost use Rattle.bcv_client.specs.AskCalls.{AskInForm, AsksOver, RepliesLook, SameWith};
+ghost use Rattle.bcv_client.specs.Caching.{Caches};
 ghost use Rattle.bcv_client.specs.CallFaults.{CallCauses, DiskFailsAs, is_io_fault};
+ghost use Rattle.bcv_client.specs.Descent.{Descends};
 ghost use Rattle.bcv_client.specs.Events.{Locally};
 ghost use Rattle.bcv_client.specs.Falls.{Falls};
 ghost use Rattle.bcv_client.specs.InForm.{InForm, IsClient};
@@ -45,6 +48,11 @@ impl<D: Disk> Client<D> {
         ensures falls { Falls D.told D.shown S.told (S.shown outside.old.store)
             (S.shown outside.new.store) (N.shown outside.old.names) (N.shown outside.new.names)
             self.old self.new }
+        ensures any_moment { CallMoments (NotesOfAsk self.old.ledger.databases ask) D.told D.shown
+            S.told (S.shown outside.old.store) (S.shown outside.new.store) self.old self.new }
+        ensures descends { Descends ask self.old self.new result }
+        ensures caches { Caches S.told (S.shown outside.old.store) (S.shown outside.new.store) ask
+            self.old self.new result }
     {
         match ask {
             Ask::Begin(db) => self.begin(alloc, &db),

@@ -3,6 +3,7 @@ ghost use Rattle.std.specs.Prelude.{◌≡◌, ◌<◌, ◌^◌, ◌+◌};
 ghost use Rattle.bcv_ledger.specs.LocalCalls.{LedgerCommits};
 ghost use Rattle.bcv_machine.specs.LocalWriting.{Commits, Reverts};
 ghost use Rattle.bcv_model.specs.Commits.{writes_of};
+ghost use Rattle.bcv_client.specs.AnyMoment.{LocalMoments, NotesOfCommit, NotesOfRevert};
 ghost use Rattle.bcv_client.specs.CallFaults.{DiskFailsAs};
 ghost use Rattle.bcv_client.specs.Events.{Noting};
 ghost use Rattle.bcv_client.specs.Falls.{FallsHere};
@@ -31,6 +32,8 @@ impl<D: Disk> Client<D> {
         ensures steps { D.told.tells → Noting D.shown
             (λ s u t. Commits s u db (writes_of commit) result t) self.old self.new result }
         ensures falls { FallsHere D.told D.shown self.old self.new }
+        ensures any_moment { LocalMoments (NotesOfCommit self.old.ledger.databases db commit)
+            D.told D.shown self.old self.new }
     {
         let _ = commit_size(&commit);
         self.taken += 1;
@@ -49,6 +52,7 @@ impl<D: Disk> Client<D> {
         ensures steps { D.told.tells → Noting D.shown (λ s u t. Reverts s u db result t)
             self.old self.new result }
         ensures falls { FallsHere D.told D.shown self.old self.new }
+        ensures any_moment { LocalMoments (NotesOfRevert db) D.told D.shown self.old self.new }
     {
         let busy = self.runs_publication();
         let set = set_of(self.ledger.find(&db));

@@ -1,11 +1,14 @@
 //! The step of a publication, whose task goes on or ends.
-ghost use Rattle.std.specs.Prelude.{◌≡◌};
+ghost use Rattle.std.specs.Prelude.{◌≡◌, ℕ};
 ghost use Rattle.bcv_keeprule.specs.Retention.{IsKeepRule};
 ghost use Rattle.bcv_publisher.specs.PollStep.{IsReadForm};
+ghost use Rattle.bcv_client.specs.Caching.{PublishCaches};
+ghost use Rattle.bcv_client.specs.AnyMoment.{TaskMoments};
+ghost use Rattle.bcv_client.specs.Descent.{PublicationDescends, TaskDescends};
 ghost use Rattle.bcv_client.specs.Falls.{FallsOver, FallsTask};
 ghost use Rattle.bcv_client.specs.CallFaults.{CallCauses, DiskFailsAs};
 ghost use Rattle.bcv_client.specs.InForm.{InForm};
-ghost use Rattle.bcv_client.specs.PublicationOver.{OnlyPublishes, StandsWith, StaysInForm, StepsTask, mine_with};
+ghost use Rattle.bcv_client.specs.PublicationOver.{OnlyPublishes, StandsWith, StaysInForm, StepsTask, mine_with, view_at};
 ghost use Rattle.bcv_client.specs.TaskCalls.{PublishesOver, SameClient, is_working};
 ghost use Rattle.bcv_client.specs.TaskTaken.{CanStep, CanGiveBack};
 ghost use Rattle.bcv_client.specs.declared.job.Job.TheVariants.{Publish};
@@ -53,6 +56,11 @@ impl<D: Disk> Client<D> {
             (mine_with self.old number set taken task) D.told D.shown S.told
             (S.shown outside.old.store) (S.shown outside.new.store) (N.shown outside.old.names)
             (N.shown outside.new.names) self.old self.new }
+        ensures any_moment { TaskMoments D.told D.shown S.told (S.shown outside.old.store)
+            (S.shown outside.new.store) self.old self.new number set taken task }
+        ensures descends { PublicationDescends self.new number set taken task result }
+        ensures caches { PublishCaches (view_at self.old.ledger.databases set task) task
+            self.old.txns self.new.txns }
     {
         let mut task = task;
         let reply = self.publish_once(alloc, outside, rule, set, taken, &mut task);
@@ -93,6 +101,12 @@ impl<D: Disk> Client<D> {
         ensures falls { FallsTask D.told D.shown S.told (S.shown outside.old.store)
             (S.shown outside.new.store) (N.shown outside.old.names) (N.shown outside.new.names)
             self.old self.new set taken task.old }
+        ensures any_moment { (n : ℕ) → TaskMoments D.told D.shown S.told
+            (S.shown outside.old.store) (S.shown outside.new.store) self.old self.new n set taken
+            task.old }
+        ensures descends { TaskDescends task.old result task.new }
+        ensures caches { PublishCaches (view_at self.old.ledger.databases set task.old) task.old
+            self.old.txns self.new.txns }
     {
         if task.ready() {
             return self.put_task(

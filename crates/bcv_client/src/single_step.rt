@@ -1,12 +1,15 @@
 //! The step of a task that ends with it.
-ghost use Rattle.std.specs.Prelude.{◌≡◌, true};
+ghost use Rattle.std.specs.Prelude.{◌≡◌, true, false};
 ghost use Rattle.bcv_base.specs.Drawn.{NamesShown};
 ghost use Rattle.bcv_base.specs.Moments.{ClockShown};
 ghost use Rattle.bcv_publisher.specs.PollStep.{IsReadForm};
+ghost use Rattle.bcv_client.specs.Caching.{JobCaches};
+ghost use Rattle.bcv_client.specs.AnyMoment.{CallMoments, NotesOfStep};
 ghost use Rattle.bcv_client.specs.Falls.{FallsJob};
 ghost use Rattle.bcv_client.specs.CallFaults.{CallCauses, DiskFailsAs};
 ghost use Rattle.bcv_client.specs.InForm.{InForm};
 ghost use Rattle.bcv_client.specs.Steps.{EndsJob};
+ghost use Rattle.bcv_client.specs.TaskCalls.{is_working};
 ghost use Rattle.bcv_client.specs.TaskTaken.{CanStep, KeepsTasks, is_single};
 
 use crate::client::Client;
@@ -34,6 +37,11 @@ impl<D: Disk> Client<D> {
             self.old self.new job.now result }
         ensures falls { FallsJob D.told D.shown S.told (S.shown store.old) (S.shown store.new)
             self.old self.new }
+        ensures any_moment { CallMoments (NotesOfStep self.old.ledger.databases.kept.pending)
+            D.told D.shown S.told (S.shown store.old) (S.shown store.new) self.old self.new }
+        ensures descends { is_working result ≡ false }
+        ensures caches { JobCaches S.told (S.shown store.old) (S.shown store.new)
+            self.old.ledger.databases self.old.txns self.new.txns job.now result }
     {
         match job {
             Job::Fetch { access, txn, page } => self.fetch(alloc, store, *access, *txn, *page),

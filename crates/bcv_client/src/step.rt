@@ -1,6 +1,10 @@
 //! The step of a task by its number.
 ghost use Rattle.std.specs.Prelude.{◌≡◌};
 ghost use Rattle.bcv_keeprule.specs.Retention.{IsKeepRule};
+ghost use Rattle.bcv_slots.specs.Numbered.{item_at};
+ghost use Rattle.bcv_client.specs.Caching.{StepCaches};
+ghost use Rattle.bcv_client.specs.AnyMoment.{CallMoments, NotesOfStep};
+ghost use Rattle.bcv_client.specs.Descent.{StepDescends};
 ghost use Rattle.bcv_client.specs.Falls.{Falls};
 ghost use Rattle.bcv_client.specs.CallFaults.{CallCauses, DiskFailsAs};
 ghost use Rattle.bcv_client.specs.InForm.{IsClient};
@@ -42,6 +46,13 @@ impl<D: Disk> Client<D> {
         ensures falls { Falls D.told D.shown S.told (S.shown outside.old.store)
             (S.shown outside.new.store) (N.shown outside.old.names) (N.shown outside.new.names)
             self.old self.new }
+        ensures any_moment { CallMoments (NotesOfStep self.old.ledger.databases.kept.pending)
+            D.told D.shown S.told (S.shown outside.old.store) (S.shown outside.new.store)
+            self.old self.new }
+        ensures descends { StepDescends self.old self.new number result }
+        ensures caches { StepCaches S.told (S.shown outside.old.store) (S.shown outside.new.store)
+            self.old.ledger.databases self.old.txns self.new.txns
+            (item_at number self.old.tasks.items) result }
     {
         let number = number as u64;
         let job = match self.take_task(number) {

@@ -66,7 +66,8 @@ impl<D: Disk> ClientLog<D> {
     /// Notes one more commit of a database. `kept` is what is kept before it.
     pub fn commit(&mut self, alloc: Global, kept: &Kept, db: &DbName, commit: &Commit) -> Noted
         requires few { length commit.now.pages < 2 ^ 32 }
-        ensures { LogCompacts D.told D.shown self.old self.new kept.now (Committed db.now commit.now) result }
+        ensures { LogCompacts D.told D.shown self.old self.new kept.now
+            (Committed db.now commit.now) result }
     {
         self.dense = is_dense(&self.journal, kept, self.dense);
         let text = committed_note(alloc, db, commit);
@@ -75,7 +76,8 @@ impl<D: Disk> ClientLog<D> {
 
     /// Notes a publication that is about to be tried. It is pending from then on. `kept` is what is kept before it.
     pub fn intent(&mut self, alloc: Global, kept: &Kept, pending: &PendingPub) -> Noted
-        ensures notes { LogCompacts D.told D.shown self.old self.new kept.now (Intent pending.now) result }
+        ensures notes { LogCompacts D.told D.shown self.old self.new kept.now
+            (Intent pending.now) result }
         ensures waits { result ≡ Noted.Done → is_waiting self.new ≡ true }
     {
         self.dense = is_dense(&self.journal, kept, self.dense);
@@ -144,7 +146,8 @@ impl<D: Disk> ClientLog<D> {
         ensures start { result.0 ≡ log_start self.now }
         ensures tail { result.1 ≡ log_tail self.now }
         ensures order { log_start self.now ≤ log_tail self.now }
-        ensures leaves { (k : Kept) → Holds D.shown self.now k → (image : List ℕ) → (D.shown (log_disk self.now)).may_leave image
+        ensures leaves { (k : Kept) → Holds D.shown self.now k → (image : List ℕ)
+            → (D.shown (log_disk self.now)).may_leave image
             → LoadsAs image k (log_tail self.now + log_area self.now) }
     {
         self.journal.span()
@@ -153,7 +156,8 @@ impl<D: Disk> ClientLog<D> {
     /// The disk back. A crash leaves what the log holds.
     pub fn down(self) -> D
         ensures disk { result ≡ log_disk self }
-        ensures leaves { (k : Kept) → Holds D.shown self k → (image : List ℕ) → (D.shown result).may_leave image
+        ensures leaves { (k : Kept) → Holds D.shown self k → (image : List ℕ)
+            → (D.shown result).may_leave image
             → LoadsAs image k (log_tail self + log_area self) }
     {
         let ClientLog {

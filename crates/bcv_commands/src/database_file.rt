@@ -52,9 +52,11 @@ impl<T: Drop> From<AllocFailed<T>> for FileFault {
 /// database without pages, whose page size is 4,096.
 pub fn read_file<I: Source>(alloc: Global, input: &mut I) -> Result<DatabaseFile, FileFault>
     requires unended { I.ended input.old ≡ false }
-    ensures read { (taken : List ℕ) × Consumes (I.left input.old) (I.left input.new) taken × ReadsFile result taken (IsAtEnd (I.left input.new)) }
+    ensures read { (taken : List ℕ) × Consumes (I.left input.old) (I.left input.new) taken
+        × ReadsFile result taken (IsAtEnd (I.left input.new)) }
     ensures later { I.faults input.old ≤ I.faults input.new }
-    ensures cause { result ≡ Err FileFault.ReadFault → Rose (I.faults input.old) (I.faults input.new) }
+    ensures cause { result ≡ Err FileFault.ReadFault
+        → Rose (I.faults input.old) (I.faults input.new) }
 {
     let mut header = [0; 18];
     match fill(input, &mut header, 0) {
@@ -73,9 +75,11 @@ fn after_header<I: Source>(
 ) -> Result<DatabaseFile, FileFault>
     requires unended { I.ended input.old ≡ false }
     requires header { length header.now ≡ 18 }
-    ensures read { (taken : List ℕ) × Consumes (I.left input.old) (I.left input.new) taken × ReadsFile result (header.now ++ taken) (IsAtEnd (I.left input.new)) }
+    ensures read { (taken : List ℕ) × Consumes (I.left input.old) (I.left input.new) taken
+        × ReadsFile result (header.now ++ taken) (IsAtEnd (I.left input.new)) }
     ensures later { I.faults input.old ≤ I.faults input.new }
-    ensures cause { result ≡ Err FileFault.ReadFault → Rose (I.faults input.old) (I.faults input.new) }
+    ensures cause { result ≡ Err FileFault.ReadFault
+        → Rose (I.faults input.old) (I.faults input.new) }
 {
     match page_size_of(header) {
         Some(page_size) => read_pages(alloc, input, page_size, header),
@@ -104,7 +108,8 @@ fn refused<I: Source>(input: &mut I, header: &[u8]) -> FileFault
     requires unended { I.ended input.old ≡ false }
     requires header { length header.now ≡ 18 }
     requires sizeless { header_page_size header.now ≡ None }
-    ensures read { (taken : List ℕ) × Consumes (I.left input.old) (I.left input.new) taken × ReadsFile (Err result) (header.now ++ taken) (IsAtEnd (I.left input.new)) }
+    ensures read { (taken : List ℕ) × Consumes (I.left input.old) (I.left input.new) taken
+        × ReadsFile (Err result) (header.now ++ taken) (IsAtEnd (I.left input.new)) }
     ensures later { I.faults input.old ≤ I.faults input.new }
     ensures cause { result ≡ FileFault.ReadFault → Rose (I.faults input.old) (I.faults input.new) }
 {

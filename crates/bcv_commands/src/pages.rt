@@ -29,9 +29,11 @@ pub fn read_pages<I: Source>(
     requires sized { 0 < page_size }
     requires header { length header.now ≤ page_size }
     requires small { page_size ≤ 65536 }
-    ensures read { (taken : List ℕ) × Consumes (I.left input.old) (I.left input.new) taken × CutsFile result page_size (header.now ++ taken) (IsAtEnd (I.left input.new)) }
+    ensures read { (taken : List ℕ) × Consumes (I.left input.old) (I.left input.new) taken
+        × CutsFile result page_size (header.now ++ taken) (IsAtEnd (I.left input.new)) }
     ensures later { I.faults input.old ≤ I.faults input.new }
-    ensures cause { result ≡ Err FileFault.ReadFault → Rose (I.faults input.old) (I.faults input.new) }
+    ensures cause { result ≡ Err FileFault.ReadFault
+        → Rose (I.faults input.old) (I.faults input.new) }
 {
     let mut pages = Vec::new(alloc);
     let mut length = 0;
@@ -69,7 +71,8 @@ fn next_page<I: Source>(
     requires front { length front.now ≤ page_size }
     requires within { before + length front.now ≤ 268435456 }
     ensures goes_on { (page : List ℕ) → result ≡ NextPage.Whole page → I.ended input.new ≡ false }
-    ensures read { (taken : List ℕ) × Consumes (I.left input.old) (I.left input.new) taken × TakesPage result page_size before (front.now ++ taken) (IsAtEnd (I.left input.new)) }
+    ensures read { (taken : List ℕ) × Consumes (I.left input.old) (I.left input.new) taken
+        × TakesPage result page_size before (front.now ++ taken) (IsAtEnd (I.left input.new)) }
     ensures later { I.faults input.old ≤ I.faults input.new }
     ensures cause { result ≡ NextPage.Failed → Rose (I.faults input.old) (I.faults input.new) }
 {
@@ -89,7 +92,8 @@ fn next_page<I: Source>(
 // A page that begins with these bytes, and has zeros after them.
 fn begun(alloc: Global, page_size: u32, front: &[u8]) -> Result<Vec<u8>, AllocError>
     requires { length front.now ≤ page_size }
-    ensures { IfOk result (λ p. (length p.items ≡ page_size) × (take (length front.now) p.items ≡ front.now)) }
+    ensures { IfOk result (λ p. (length p.items ≡ page_size)
+        × (take (length front.now) p.items ≡ front.now)) }
 {
     let mut page = vec![in alloc; 0; page_size as usize]?;
     copy_front(front, &mut page);

@@ -44,9 +44,11 @@ pub fn read_pairs<I: Source>(
     input: &mut I,
 ) -> Result<Seq<(u32, Seq<u8>)>, PairsFault>
     requires unended { I.ended input.old ≡ false }
-    ensures read { (taken : List ℕ) × Consumes (I.left input.old) (I.left input.new) taken × ReadsPairs result taken (IsAtEnd (I.left input.new)) }
+    ensures read { (taken : List ℕ) × Consumes (I.left input.old) (I.left input.new) taken
+        × ReadsPairs result taken (IsAtEnd (I.left input.new)) }
     ensures later { I.faults input.old ≤ I.faults input.new }
-    ensures cause { result ≡ Err PairsFault.ReadFault → Rose (I.faults input.old) (I.faults input.new) }
+    ensures cause { result ≡ Err PairsFault.ReadFault
+        → Rose (I.faults input.old) (I.faults input.new) }
 {
     let mut reader = Lines::new(alloc)?;
     let mut pairs = Vec::new(alloc);

@@ -413,7 +413,8 @@ fn upload_name(upload: &Uploading) -> DbName
 // Ends the use of a set by a database, or moves the number after which its commits begin.
 fn end_use(uses: &mut Vec<SetUse>, db: &DbName, count: u64, last: u64, ends: bool)
     requires order { Ascends use_name uses.old.items }
-    requires small { ends ≡ false → IfSome (keyed use_name db.now uses.old.items) (λ u. u.from + count ≤ last) }
+    requires small { ends ≡ false → IfSome (keyed use_name db.now uses.old.items)
+        (λ u. u.from + count ≤ last) }
     ensures { uses.new.items ≡ uses_after ends db.now count uses.old.items }
 {
     if ends {
@@ -442,7 +443,12 @@ fn base_of(local: Local) -> Known
 
 // A known database with these commits.
 fn local_over(known: Known, commits: Seq<Commit>) -> Local
-    ensures { result ≡ record { entry = known.entry; number = known.number; block = known.block; commits = commits } }
+    ensures { result ≡ record {
+      entry = known.entry;
+      number = known.number;
+      block = known.block;
+      commits = commits;
+    } }
 {
     let Known {
         entry,

@@ -56,7 +56,8 @@ pub(crate) fn add_later(
     requires order { Ascends kept_name locals.old }
     requires empty { spare.old.items ≡ [] }
     requires there { IsSome (keyed kept_name db.now locals.old) }
-    requires room { IfSome (keyed kept_name db.now locals.old) (λ l. length l.commits < vec_capacity spare.old) }
+    requires room { IfSome (keyed kept_name db.now locals.old)
+        (λ l. length l.commits < vec_capacity spare.old) }
     ensures locals { locals.new ≡ with_local_commit db.now commit locals.old }
     ensures spare { spare.new.items ≡ [] }
 {

@@ -76,7 +76,8 @@ pub(crate) fn table(
 ) -> Result<Vec<Row>, AllocError>
     requires locals { Ascends kept_name locals.now }
     requires known { Ascends known_name known.now }
-    requires without { AllByRecursion (λ k. keyed kept_name (known_name k) locals.now ≡ None) known.now }
+    requires without { AllByRecursion (λ k. keyed kept_name (known_name k) locals.now
+        ≡ None) known.now }
     ensures { IfOk result (λ rows. rows.items ≡ merged_rows known.now (map local_row locals.now)) }
 {
     let mut rows = Vec::new(alloc);

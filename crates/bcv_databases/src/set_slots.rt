@@ -18,7 +18,8 @@ pub(crate) fn reserve_in(
     commit: &Commit,
 ) -> Result<(), AllocError>
     requires inside { place < length sets.old.items }
-    requires fits { IfSome (set_at sets.old.items place) (λ h. is_commit h.page_size (writes_of commit.now) ≡ true) }
+    requires fits { IfSome (set_at sets.old.items place)
+        (λ h. is_commit h.page_size (writes_of commit.now) ≡ true) }
     ensures { sets.new.items
         ≡ (if is_ok result then changed (with_room (writes_of commit.now)) place sets.old.items else sets.old.items) }
 {
@@ -33,7 +34,8 @@ pub(crate) fn reserve_in(
 /// Makes room for a commit, where its number is below 2^64.
 pub(crate) fn reserve(set: &mut PageSet, commit: &Commit) -> Result<(), AllocError>
     requires { is_commit set.old.page_size (writes_of commit.now) ≡ true }
-    ensures { set.new ≡ (if is_ok result then with_room (writes_of commit.now) set.old else set.old) }
+    ensures { set.new ≡ (if is_ok result then with_room (writes_of commit.now) set.old
+        else set.old) }
 {
     if set.last() >= u64::MAX {
         return Err(AllocError);

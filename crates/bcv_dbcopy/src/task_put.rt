@@ -19,7 +19,8 @@ impl CopyTask {
     pub fn put<S: Store>(&mut self, alloc: Global, store: &mut S, moment: u64) -> PutEnd
         requires running { IsRunning self.old }
         requires ready { is_ready self.old ≡ true }
-        ensures leaves { MatchOption self.old.publish.latest ⊥ (λ read. PutLeaves moment self.old read result self.new) }
+        ensures leaves { MatchOption self.old.publish.latest ⊥
+            (λ read. PutLeaves moment self.old read result self.new) }
         ensures puts { MatchOption self.old.publish.latest ⊥ (λ read.
             ManifestPuts S.told (S.shown store.old) (S.shown store.new)
             self.old.publish read self.old.edit moment result self.new.publish) }

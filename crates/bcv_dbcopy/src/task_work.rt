@@ -33,7 +33,8 @@ impl CopyTask {
         requires running { IsRunning self.old }
         requires not_ready { is_ready self.old ≡ false }
         ensures leaves { WorkLeaves self.old.publish.latest seen.now self.old result self.new }
-        ensures works { TaskWorks S.told (S.shown store.old) (S.shown store.new) (N.shown names.old) (N.shown names.new)
+        ensures works { TaskWorks S.told (S.shown store.old) (S.shown store.new) (N.shown names.old)
+            (N.shown names.new)
             seen.now self.old result self.new }
         ensures reached { S.reaches store.old store.new }
         ensures running { IsRunning self.new }
@@ -65,7 +66,8 @@ impl CopyTask {
         requires running { self.old.published ≡ false }
         requires kept { is_none self.old.publish.latest ≡ false }
         requires not_ready { is_ready self.old ≡ false }
-        ensures leaves { (seen : Seen) → WorkLeaves self.old.publish.latest seen self.old result self.new }
+        ensures leaves { (seen : Seen) → WorkLeaves self.old.publish.latest seen self.old
+            result self.new }
         ensures works { (seen : Seen) →
             TaskWorks S.told (S.shown store.old) (S.shown store.new) (N.shown names.old) (N.shown names.new)
             seen self.old result self.new }
@@ -105,7 +107,8 @@ fn put_next<S: Store, N: Names>(
     requires size { 512 ≤ entry.old.page_size }
     requires few { length entry.old.blocks < 65536 }
     requires pages { AllByRecursion (λ (p : Page). length p ≡ entry.old.page_size) pages.now }
-    ensures puts { BlockPuts S.told (S.shown store.old) (S.shown store.new) (N.shown names.old) (N.shown names.new)
+    ensures puts { BlockPuts S.told (S.shown store.old) (S.shown store.new) (N.shown names.old)
+        (N.shown names.new)
         (block_text block entry.old.page_size pages.now (length entry.old.blocks))
         entry.old.blocks result entry.new.blocks }
     ensures rest { entry.new ≡ record entry.old { blocks = entry.new.blocks } }

@@ -20,7 +20,8 @@ use bcv_base::{DbEntry, DbName, Id16, Manifest, blocks_needed};
 
 fn check_new(block: u32, dbs: &[DbEntry], entry: &DbEntry) -> Result<(), EditFault>
     requires { 512 ≤ block }
-    ensures { MatchResult result (λ _. new_fault block dbs.now entry.now ≡ None) (λ f. new_fault block dbs.now entry.now ≡ Some f) }
+    ensures { MatchResult result (λ _. new_fault block dbs.now entry.now ≡ None)
+        (λ f. new_fault block dbs.now entry.now ≡ Some f) }
 {
     if database_of(dbs, &entry.name).is_some() {
         return Err(EditFault::Exists);
@@ -38,7 +39,8 @@ fn check_new(block: u32, dbs: &[DbEntry], entry: &DbEntry) -> Result<(), EditFau
 }
 
 fn check_upload(dbs: &[DbEntry], name: &DbName, from: &Id16) -> Result<(), EditFault>
-    ensures { MatchResult result (λ _. upload_fault (keyed db_name name.now dbs.now) from.now ≡ None) (λ f. upload_fault (keyed db_name name.now dbs.now) from.now ≡ Some f) }
+    ensures { MatchResult result (λ _. upload_fault (keyed db_name name.now dbs.now) from.now
+        ≡ None) (λ f. upload_fault (keyed db_name name.now dbs.now) from.now ≡ Some f) }
 {
     match database_of(dbs, name) {
         None => Err(EditFault::NoDatabase),
@@ -53,7 +55,8 @@ fn check_upload(dbs: &[DbEntry], name: &DbName, from: &Id16) -> Result<(), EditF
 }
 
 fn check_copy(dbs: &[DbEntry], from: &DbName, to: &DbName) -> Result<(), EditFault>
-    ensures { MatchResult result (λ _. copy_fault dbs.now from.now to.now ≡ None) (λ f. copy_fault dbs.now from.now to.now ≡ Some f) }
+    ensures { MatchResult result (λ _. copy_fault dbs.now from.now to.now ≡ None)
+        (λ f. copy_fault dbs.now from.now to.now ≡ Some f) }
 {
     if database_of(dbs, from).is_none() {
         return Err(EditFault::NoDatabase);
@@ -68,7 +71,8 @@ fn check_copy(dbs: &[DbEntry], from: &DbName, to: &DbName) -> Result<(), EditFau
 }
 
 fn check_remove(dbs: &[DbEntry], name: &DbName) -> Result<(), EditFault>
-    ensures { MatchResult result (λ _. plan_fault 0 dbs.now (EditPlan.Remove name.now) ≡ None) (λ f. plan_fault 0 dbs.now (EditPlan.Remove name.now) ≡ Some f) }
+    ensures { MatchResult result (λ _. plan_fault 0 dbs.now (EditPlan.Remove name.now) ≡ None)
+        (λ f. plan_fault 0 dbs.now (EditPlan.Remove name.now) ≡ Some f) }
 {
     match database_of(dbs, name) {
         None => Err(EditFault::NoDatabase),
@@ -79,7 +83,8 @@ fn check_remove(dbs: &[DbEntry], name: &DbName) -> Result<(), EditFault>
 // The tests of the databases.
 fn check_databases(block: u32, dbs: &[DbEntry], plan: &EditPlan) -> Result<(), EditFault>
     requires { 512 ≤ block }
-    ensures { MatchResult result (λ _. plan_fault block dbs.now plan.now ≡ None) (λ f. plan_fault block dbs.now plan.now ≡ Some f) }
+    ensures { MatchResult result (λ _. plan_fault block dbs.now plan.now ≡ None)
+        (λ f. plan_fault block dbs.now plan.now ≡ Some f) }
 {
     match plan {
         EditPlan::New(entry) => check_new(block, dbs, entry),
@@ -94,7 +99,8 @@ fn check_databases(block: u32, dbs: &[DbEntry], plan: &EditPlan) -> Result<(), E
 fn check_lengths(bytes: u64, dead: u64) -> Result<(), EditFault>
     requires bytes { bytes < 2 ^ 63 }
     requires dead { dead < 2 ^ 32 }
-    ensures { MatchResult result (λ _. too_large bytes dead ≡ None) (λ f. too_large bytes dead ≡ Some f) }
+    ensures { MatchResult result (λ _. too_large bytes dead ≡ None)
+        (λ f. too_large bytes dead ≡ Some f) }
 {
     if dead > u64::from(MOST_DEAD) {
         return Err(EditFault::DeleteListFull);
@@ -109,7 +115,8 @@ fn check_lengths(bytes: u64, dead: u64) -> Result<(), EditFault>
 fn bytes_beside(m: &Manifest, plan: &EditPlan, writer: &Id16) -> u64
     requires rules { MeetsRules m.now }
     requires limits { MeetsLimits m.now }
-    ensures value { result ≡ 64 + 40 * length (applied m.now plan.now zero_id writer.now 0).writers + needed_total m.now.block (applied m.now plan.now zero_id writer.now 0).dbs }
+    ensures value { result ≡ 64 + 40 * length (applied m.now plan.now zero_id writer.now 0).writers
+        + needed_total m.now.block (applied m.now plan.now zero_id writer.now 0).dbs }
     ensures small { result < 2 ^ 63 }
 {
     let lines = line_count(m.writers.items(), writer);
@@ -131,7 +138,8 @@ fn check_size(m: &Manifest, plan: &EditPlan, writer: &Id16) -> Result<(), EditFa
     requires rules { MeetsRules m.now }
     requires limits { MeetsLimits m.now }
     requires passes { plan_fault m.now.block m.now.dbs plan.now ≡ None }
-    ensures { MatchResult result (λ _. size_fault m.now plan.now writer.now ≡ None) (λ f. size_fault m.now plan.now writer.now ≡ Some f) }
+    ensures { MatchResult result (λ _. size_fault m.now plan.now writer.now ≡ None)
+        (λ f. size_fault m.now plan.now writer.now ≡ Some f) }
 {
     if line_count(m.writers.items(), writer) > MOST_WRITERS as usize {
         return Err(EditFault::WritersFull);
@@ -150,7 +158,8 @@ fn check_size(m: &Manifest, plan: &EditPlan, writer: &Id16) -> Result<(), EditFa
 pub fn check(m: &Manifest, plan: &EditPlan, writer: &Id16) -> Result<(), EditFault>
     requires rules { MeetsRules m.now }
     requires limits { MeetsLimits m.now }
-    ensures { MatchResult result (λ _. checked m.now plan.now writer.now ≡ None) (λ f. checked m.now plan.now writer.now ≡ Some f) }
+    ensures { MatchResult result (λ _. checked m.now plan.now writer.now ≡ None)
+        (λ f. checked m.now plan.now writer.now ≡ Some f) }
 {
     if m.number == u64::MAX {
         return Err(EditFault::VersionsFull);

@@ -29,7 +29,8 @@ const ZERO: Id16 = Id16([0; 16]);
 fn mark_if_filled(ids: &[Id16], marks: &mut [bool], id: &Id16)
     requires order { Ascends own_key ids.now }
     requires len { length marks.old ≡ length ids.now }
-    ensures { marks.new ≡ marked (λ i. not (id_eq id.now zero_id) && id_eq id.now i) ids.now marks.old }
+    ensures { marks.new ≡ marked (λ i. not (id_eq id.now zero_id) && id_eq id.now i)
+        ids.now marks.old }
 {
     if id.same_as(&ZERO) {
         return;
@@ -52,7 +53,8 @@ fn mark_filled(ids: &[Id16], marks: &mut [bool], filled: &[Id16])
 fn mark_if_other(ids: &[Id16], marks: &mut [bool], name: &DbName, db: &DbEntry)
     requires order { Ascends own_key ids.now }
     requires len { length marks.old ≡ length ids.now }
-    ensures { marks.new ≡ marked (λ i. not (bytes_eq db.now.name name.now) && has_id i db.now.blocks) ids.now marks.old }
+    ensures { marks.new ≡ marked (λ i. not (bytes_eq db.now.name name.now)
+        && has_id i db.now.blocks) ids.now marks.old }
 {
     if db.name.same_as(name) {
         return;
@@ -88,7 +90,8 @@ fn count_left(
 ) -> usize
     requires order { Ascends own_key ids.now }
     requires none { marks.old ≡ replicate (length ids.now) false }
-    ensures { result ≡ length (filter (λ i. not (lists_behind name.now filled.now dbs.now i || has_id i later.now)) ids.now) }
+    ensures { result ≡ length (filter
+        (λ i. not (lists_behind name.now filled.now dbs.now i || has_id i later.now)) ids.now) }
 {
     mark_others(ids, marks, name, dbs);
     mark_filled(ids, marks, filled);
@@ -105,7 +108,8 @@ fn count_chunk(
     dbs: &[DbEntry],
 ) -> usize
     requires { length chunk.now ≤ 2048 }
-    ensures { result ≡ length (chosen (λ i. not (lists_behind name.now filled.now dbs.now i || has_id i later.now)) chunk.now) }
+    ensures { result ≡ length (chosen
+        (λ i. not (lists_behind name.now filled.now dbs.now i || has_id i later.now)) chunk.now) }
 {
     let mut room = [ZERO; CHUNK];
     let ids = &mut room[..chunk.len()];
@@ -118,7 +122,8 @@ fn count_chunk(
 // How many of these ids, each counted once, are not listed behind a plan which puts such blocks under a name.
 fn count_unlisted(ids: &[Id16], name: &DbName, filled: &[Id16], dbs: &[DbEntry]) -> usize
     requires { length ids.now ≤ 65536 }
-    ensures { result ≡ length (chosen (λ i. not (lists_behind name.now filled.now dbs.now i)) ids.now) }
+    ensures { result ≡ length (chosen (λ i. not (lists_behind name.now filled.now dbs.now i))
+        ids.now) }
 {
     let mut count = 0;
     let mut rest = ids;
@@ -160,7 +165,8 @@ fn copy_ids(ids: &mut [Id16], dead: &[Dead])
 fn count_kept(ids: &[Id16], marks: &mut [bool], plan: &EditPlan) -> usize
     requires order { Ascends own_key ids.now }
     requires none { marks.old ≡ replicate (length ids.now) false }
-    ensures { result ≡ length (filter (λ i. not (has_id i (taken_off (counted plan.now)))) ids.now) }
+    ensures { result ≡ length (filter (λ i. not (has_id i (taken_off (counted plan.now))))
+        ids.now) }
 {
     mark_taken(ids, marks, plan);
     count_unmarked(marks)
@@ -170,7 +176,8 @@ fn count_kept(ids: &[Id16], marks: &mut [bool], plan: &EditPlan) -> usize
 fn count_dead_chunk(chunk: &[Dead], plan: &EditPlan) -> usize
     requires order { Ascends dead_id chunk.now }
     requires few { length chunk.now ≤ 2048 }
-    ensures { result ≡ length (filter (λ e. not (has_id e.id (taken_off (counted plan.now)))) chunk.now) }
+    ensures { result ≡ length (filter (λ e. not (has_id e.id (taken_off (counted plan.now))))
+        chunk.now) }
 {
     let mut room = [ZERO; CHUNK];
     let ids = &mut room[..chunk.len()];
@@ -183,7 +190,8 @@ fn count_dead_chunk(chunk: &[Dead], plan: &EditPlan) -> usize
 fn count_staying(dead: &[Dead], plan: &EditPlan) -> usize
     requires order { Ascends dead_id dead.now }
     requires few { length dead.now ≤ 1048576 }
-    ensures { result ≡ length (filter (λ e. not (has_id e.id (taken_off (counted plan.now)))) dead.now) }
+    ensures { result ≡ length (filter (λ e. not (has_id e.id (taken_off (counted plan.now))))
+        dead.now) }
 {
     let mut count = 0;
     let mut rest = dead;

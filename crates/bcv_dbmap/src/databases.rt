@@ -27,7 +27,8 @@ pub(crate) fn database_of<'a>(dbs: &'a [DbEntry], name: &DbName) -> Option<&'a D
 pub(crate) fn place_of(dbs: &[DbEntry], name: &DbName) -> (usize, usize)
     ensures order { result.0 ≤ result.1 }
     ensures within { result.1 ≤ length dbs.now }
-    ensures place { (d : DbEntry) → d.name ≡ name.now → with_keyed db_name d dbs.now ≡ take result.0 dbs.now ++ d ∷ drop result.1 dbs.now }
+    ensures place { (d : DbEntry) → d.name ≡ name.now
+        → with_keyed db_name d dbs.now ≡ take result.0 dbs.now ++ d ∷ drop result.1 dbs.now }
 {
     for place in 0..dbs.len() {
         let order = dbs[place].name.cmp_bytes(name);

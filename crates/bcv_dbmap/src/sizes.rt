@@ -15,7 +15,8 @@ use bcv_base::{DbEntry, DbName, blocks_needed};
 // The bytes of a database's entry under a name.
 fn needed_under(block: u32, name: &DbName, db: &DbEntry) -> u64
     requires { 512 ≤ block }
-    ensures value { (d : DbEntry) → d.name ≡ name.now → d.page_size ≡ db.now.page_size → d.pages ≡ db.now.pages → result ≡ needed_length block d }
+    ensures value { (d : DbEntry) → d.name ≡ name.now → d.page_size ≡ db.now.page_size
+        → d.pages ≡ db.now.pages → result ≡ needed_length block d }
     ensures small { result < 2 ^ 61 }
 {
     25 + name.text().len() as u64 + 16 * blocks_needed(block, db.page_size, db.pages)
@@ -39,7 +40,8 @@ fn needed_with(block: u32, name: &DbName, own: u64, dbs: &[DbEntry]) -> u64
     requires block { 512 ≤ block }
     requires own { own < 2 ^ 61 }
     requires fits { needed_total block dbs.now < 2 ^ 60 }
-    ensures value { (d : DbEntry) → d.name ≡ name.now → own ≡ needed_length block d → result ≡ needed_total block (with_keyed db_name d dbs.now) }
+    ensures value { (d : DbEntry) → d.name ≡ name.now → own ≡ needed_length block d
+        → result ≡ needed_total block (with_keyed db_name d dbs.now) }
     ensures small { result < 2 ^ 62 }
 {
     let (place, later) = place_of(dbs, name);

@@ -24,9 +24,11 @@ fn has_writer(writers: &[Writer], id: &Id16) -> bool
 pub(crate) fn line_count(writers: &[Writer], id: &Id16) -> usize
     requires order { Ascends writer_id writers.now }
     requires few { length writers.now ≤ 4096 }
-    ensures count { (w : Writer) → w.id ≡ id.now → result ≡ length (with_keyed writer_id w writers.now) }
+    ensures count { (w : Writer) → w.id ≡ id.now → result
+        ≡ length (with_keyed writer_id w writers.now) }
     ensures small { result ≤ 4097 }
-    ensures full { nat_lt 4096 result ≡ (is_none (keyed writer_id id.now.0 writers.now) && nat_le 4096 (length writers.now)) }
+    ensures full { nat_lt 4096 result ≡ (is_none (keyed writer_id id.now.0 writers.now)
+        && nat_le 4096 (length writers.now)) }
 {
     if has_writer(writers, id) {
         writers.len()
@@ -39,7 +41,8 @@ pub(crate) fn line_count(writers: &[Writer], id: &Id16) -> usize
 fn line_of(writers: &[Writer], id: &Id16) -> (usize, usize)
     ensures order { result.0 ≤ result.1 }
     ensures within { result.1 ≤ length writers.now }
-    ensures place { (w : Writer) → w.id ≡ id.now → with_keyed writer_id w writers.now ≡ take result.0 writers.now ++ w ∷ drop result.1 writers.now }
+    ensures place { (w : Writer) → w.id ≡ id.now → with_keyed writer_id w writers.now
+        ≡ take result.0 writers.now ++ w ∷ drop result.1 writers.now }
 {
     for place in 0..writers.len() {
         let order = writers[place].id.cmp(id);

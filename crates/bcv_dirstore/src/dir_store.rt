@@ -82,7 +82,8 @@ fn get_locked<F: Folder>(
     most: usize,
 ) -> Got
     requires { into.old.items ≡ [] }
-    ensures files { F.told.tells → FolderGets F.told (F.shown folder.old) (F.shown folder.new) name.now unless most into.new.items result }
+    ensures files { F.told.tells → FolderGets F.told (F.shown folder.old)
+        (F.shown folder.new) name.now unless most into.new.items result }
     ensures within { IsGotWithin unless most into.new.items result }
 {
     match folder.lock(Lock::Shared) {
@@ -103,7 +104,8 @@ fn put_locked<F: Folder>(
     cond: Cond,
     bytes: &[u8],
 ) -> Put
-    ensures files { F.told.tells → FolderPuts F.told (F.shown folder.old) (F.shown folder.new) name.now cond bytes.now result }
+    ensures files { F.told.tells → FolderPuts F.told (F.shown folder.old)
+        (F.shown folder.new) name.now cond bytes.now result }
 {
     match folder.lock(Lock::Exclusive) {
         FolderEnd::Done => {}
@@ -117,7 +119,8 @@ fn put_locked<F: Folder>(
 
 // Deletes an object under an exclusive lock.
 fn delete_locked<F: Folder>(folder: &mut F, alloc: Global, name: &ObjName) -> Del
-    ensures files { F.told.tells → FolderDeletes F.told (F.shown folder.old) (F.shown folder.new) name.now result }
+    ensures files { F.told.tells → FolderDeletes F.told (F.shown folder.old)
+        (F.shown folder.new) name.now result }
 {
     match folder.lock(Lock::Exclusive) {
         FolderEnd::Done => {}
@@ -152,10 +155,13 @@ impl<F: Folder> Store for DirStore<F> {
         into: &mut Vec<u8>,
         most: usize,
     ) -> Got
-        ensures gets { StoreGets tells_nothing (untold (faults_of self.old)) (untold (faults_of self.new)) name.now unless most into.new.items result }
+        ensures gets { StoreGets tells_nothing (untold (faults_of self.old))
+            (untold (faults_of self.new)) name.now unless most into.new.items result }
         ensures reached { faults_of self.old ≤ faults_of self.new }
-        ensures files { F.told.tells → FolderGets F.told (F.shown (folder_of self.old)) (F.shown (folder_of self.new)) name.now unless most into.new.items result }
-        ensures counts { CountsFault (result ≡ Got.Failed) (faults_of self.old) (faults_of self.new) }
+        ensures files { F.told.tells → FolderGets F.told (F.shown (folder_of self.old))
+            (F.shown (folder_of self.new)) name.now unless most into.new.items result }
+        ensures counts { CountsFault (result ≡ Got.Failed) (faults_of self.old)
+            (faults_of self.new) }
     {
         into.clear();
         match get_locked(&mut self.folder, alloc, name, unless, into, most) {
@@ -168,10 +174,13 @@ impl<F: Folder> Store for DirStore<F> {
     }
 
     fn put(&mut self, alloc: Global, name: &ObjName, cond: Cond, bytes: &[u8]) -> Put
-        ensures puts { StorePuts tells_nothing (untold (faults_of self.old)) (untold (faults_of self.new)) name.now cond bytes.now result }
+        ensures puts { StorePuts tells_nothing (untold (faults_of self.old))
+            (untold (faults_of self.new)) name.now cond bytes.now result }
         ensures reached { faults_of self.old ≤ faults_of self.new }
-        ensures files { F.told.tells → FolderPuts F.told (F.shown (folder_of self.old)) (F.shown (folder_of self.new)) name.now cond bytes.now result }
-        ensures counts { CountsFault (result ≡ Put.Failed) (faults_of self.old) (faults_of self.new) }
+        ensures files { F.told.tells → FolderPuts F.told (F.shown (folder_of self.old))
+            (F.shown (folder_of self.new)) name.now cond bytes.now result }
+        ensures counts { CountsFault (result ≡ Put.Failed) (faults_of self.old)
+            (faults_of self.new) }
     {
         match put_locked(&mut self.folder, alloc, name, cond, bytes) {
             Put::Failed => {
@@ -184,10 +193,13 @@ impl<F: Folder> Store for DirStore<F> {
 
     // The moment of a deletion is kept in no file.
     fn delete(&mut self, alloc: Global, name: &ObjName, at: u64) -> Del
-        ensures deletes { StoreDeletes tells_nothing (untold (faults_of self.old)) (untold (faults_of self.new)) name.now at result }
+        ensures deletes { StoreDeletes tells_nothing (untold (faults_of self.old))
+            (untold (faults_of self.new)) name.now at result }
         ensures reached { faults_of self.old ≤ faults_of self.new }
-        ensures files { F.told.tells → FolderDeletes F.told (F.shown (folder_of self.old)) (F.shown (folder_of self.new)) name.now result }
-        ensures counts { CountsFault (result ≡ Del.Failed) (faults_of self.old) (faults_of self.new) }
+        ensures files { F.told.tells → FolderDeletes F.told (F.shown (folder_of self.old))
+            (F.shown (folder_of self.new)) name.now result }
+        ensures counts { CountsFault (result ≡ Del.Failed) (faults_of self.old)
+            (faults_of self.new) }
     {
         let _ = at;
         match delete_locked(&mut self.folder, alloc, name) {
@@ -200,10 +212,13 @@ impl<F: Folder> Store for DirStore<F> {
     }
 
     fn list(&mut self, alloc: Global, after: Option<&Id16>, into: &mut Vec<Id16>) -> Listed
-        ensures lists { StoreLists tells_nothing (untold (faults_of self.old)) (untold (faults_of self.new)) (option_copied after.entry) into.new.items result }
+        ensures lists { StoreLists tells_nothing (untold (faults_of self.old))
+            (untold (faults_of self.new)) (option_copied after.entry) into.new.items result }
         ensures reached { faults_of self.old ≤ faults_of self.new }
-        ensures files { F.told.tells → FolderLists F.told (F.shown (folder_of self.old)) (F.shown (folder_of self.new)) (option_copied after.entry) into.new.items result }
-        ensures counts { CountsFault (result ≡ Listed.Failed) (faults_of self.old) (faults_of self.new) }
+        ensures files { F.told.tells → FolderLists F.told (F.shown (folder_of self.old))
+            (F.shown (folder_of self.new)) (option_copied after.entry) into.new.items result }
+        ensures counts { CountsFault (result ≡ Listed.Failed) (faults_of self.old)
+            (faults_of self.new) }
     {
         into.clear();
         match list_blocks(&mut self.folder, alloc, after, into) {

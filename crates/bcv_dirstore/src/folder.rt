@@ -69,12 +69,14 @@ pub trait Folder {
         requires locked { told.tells → IsSome (shown self.old).lock }
         requires there { told.tells → HasRest ((shown self.old).files name.now) len }
         requires empty { into.old.items ≡ [] }
-        ensures rests { FolderRests told (shown self.old) (shown self.new) name.now len into.new.items result };
+        ensures rests { FolderRests told (shown self.old)
+            (shown self.new) name.now len into.new.items result };
 
     /// Writes the draft of an object, in place of one that is there: eight bytes and then the others.
     fn write(&mut self, alloc: Global, name: &ObjName, front: [u8; 8], bytes: &[u8]) -> FolderEnd
         requires locked { told.tells → (shown self.old).lock ≡ Some Exclusive }
-        ensures writes { FolderWrites told (shown self.old) (shown self.new) name.now front bytes.now result };
+        ensures writes { FolderWrites told (shown self.old)
+            (shown self.new) name.now front bytes.now result };
 
     /// Brings to the disk what was written into files here.
     fn sync_files(&mut self, alloc: Global) -> FolderEnd
@@ -103,5 +105,6 @@ pub trait Folder {
     fn blocks(&mut self, alloc: Global, into: &mut Vec<Id16>) -> FolderEnd
         requires locked { told.tells → IsSome (shown self.old).lock }
         requires empty { into.old.items ≡ [] }
-        ensures blocks { FolderBlocks told (shown self.old) (shown self.new) into.new.items result };
+        ensures blocks { FolderBlocks told (shown self.old)
+            (shown self.new) into.new.items result };
 }

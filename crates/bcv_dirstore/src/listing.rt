@@ -25,7 +25,8 @@ pub fn list_blocks<F: Folder>(
     into: &mut Vec<Id16>,
 ) -> Listed
     requires { into.old.items ≡ [] }
-    ensures files { F.told.tells → FolderLists F.told (F.shown folder.old) (F.shown folder.new) (option_copied after.entry) into.new.items result }
+    ensures files { F.told.tells → FolderLists F.told (F.shown folder.old) (F.shown folder.new)
+        (option_copied after.entry) into.new.items result }
     ensures within { IsListedWithin (option_copied after.entry) into.new.items result }
 {
     match folder.lock(Lock::Shared) {
@@ -80,7 +81,8 @@ fn ids_above(
     into: &mut Vec<Id16>,
 ) -> Result<bool, AllocError>
     requires { into.old.items ≡ [] }
-    ensures listed { IfOk result (λ more. (more ≡ nat_lt list_most (length (ids_past (option_copied after.entry) sorted.now)))
+    ensures listed { IfOk result (λ more. (more ≡ nat_lt list_most
+        (length (ids_past (option_copied after.entry) sorted.now)))
         × (into.new.items ≡ take list_most (ids_past (option_copied after.entry) sorted.now))) }
     ensures ordered { IsOrdered id_cmp sorted.now }
 {

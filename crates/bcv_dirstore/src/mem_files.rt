@@ -28,7 +28,8 @@ impl MemFiles {
 
     /// The bytes of a file, where it is there.
     pub fn get(&self, name: &ObjName) -> Option<&[u8]>
-        ensures { MatchOption result (file_of self.now name.now ≡ None) (λ bytes. file_of self.now name.now ≡ Some bytes.now) }
+        ensures { MatchOption result (file_of self.now name.now ≡ None)
+            (λ bytes. file_of self.now name.now ≡ Some bytes.now) }
     {
         let found = match name {
             ObjName::Manifest => self.manifest.as_ref(),

@@ -25,7 +25,8 @@ pub fn read_object<F: Folder>(
 ) -> Got
     requires locked { F.told.tells → IsSome (F.shown folder.old).lock }
     requires empty { into.old.items ≡ [] }
-    ensures gets { F.told.tells → GetsFile ((F.shown folder.old).files name.now) unless most into.new.items
+    ensures gets { F.told.tells → GetsFile ((F.shown folder.old).files name.now) unless most
+        into.new.items
         (Rose (F.shown folder.old).faults (F.shown folder.new).faults) result }
     ensures leaves { F.told.tells → LeavesFiles (F.shown folder.old) (F.shown folder.new) }
     ensures within { IsGotWithin unless most into.new.items result }
@@ -60,7 +61,8 @@ pub fn put_object<F: Folder>(
     bytes: &[u8],
 ) -> Put
     requires locked { F.told.tells → (F.shown folder.old).lock ≡ Some Exclusive }
-    ensures puts { F.told.tells → PutAnswersFile (F.shown folder.old).files (F.shown folder.new) name.now cond bytes.now
+    ensures puts { F.told.tells → PutAnswersFile (F.shown folder.old).files
+        (F.shown folder.new) name.now cond bytes.now
         (Rose (F.shown folder.old).faults (F.shown folder.new).faults) result }
     ensures later { (F.shown folder.old).faults ≤ (F.shown folder.new).faults }
 {
@@ -107,9 +109,11 @@ fn replace<F: Folder>(
     bytes: &[u8],
 ) -> FolderEnd
     requires locked { F.told.tells → (F.shown folder.old).lock ≡ Some Exclusive }
-    ensures replaces { F.told.tells → Replaces (F.shown folder.old) (F.shown folder.new) name.now front bytes.now result }
+    ensures replaces { F.told.tells
+        → Replaces (F.shown folder.old) (F.shown folder.new) name.now front bytes.now result }
     ensures later { (F.shown folder.old).faults ≤ (F.shown folder.new).faults }
-    ensures rose { result ≡ FolderEnd.Failed → Rose (F.shown folder.old).faults (F.shown folder.new).faults }
+    ensures rose { result ≡ FolderEnd.Failed
+        → Rose (F.shown folder.old).faults (F.shown folder.new).faults }
 {
     match name {
         ObjName::Manifest => replace_manifest(folder, alloc, front, bytes),
@@ -127,9 +131,11 @@ fn replace_block<F: Folder>(
 ) -> FolderEnd
     requires locked { F.told.tells → (F.shown folder.old).lock ≡ Some Exclusive }
     requires block { name.now ≡ object.Manifest → ⊥ }
-    ensures replaces { F.told.tells → Replaces (F.shown folder.old) (F.shown folder.new) name.now front bytes.now result }
+    ensures replaces { F.told.tells
+        → Replaces (F.shown folder.old) (F.shown folder.new) name.now front bytes.now result }
     ensures later { (F.shown folder.old).faults ≤ (F.shown folder.new).faults }
-    ensures rose { result ≡ FolderEnd.Failed → Rose (F.shown folder.old).faults (F.shown folder.new).faults }
+    ensures rose { result ≡ FolderEnd.Failed
+        → Rose (F.shown folder.old).faults (F.shown folder.new).faults }
 {
     match folder.write(alloc, name, front, bytes) {
         FolderEnd::Done => folder.rename(alloc, name),
@@ -145,9 +151,12 @@ fn replace_manifest<F: Folder>(
     bytes: &[u8],
 ) -> FolderEnd
     requires locked { F.told.tells → (F.shown folder.old).lock ≡ Some Exclusive }
-    ensures replaces { F.told.tells → Replaces (F.shown folder.old) (F.shown folder.new) object.Manifest front bytes.now result }
+    ensures replaces { F.told.tells
+        → Replaces (F.shown folder.old) (F.shown folder.new) object.Manifest front
+        bytes.now result }
     ensures later { (F.shown folder.old).faults ≤ (F.shown folder.new).faults }
-    ensures rose { result ≡ FolderEnd.Failed → Rose (F.shown folder.old).faults (F.shown folder.new).faults }
+    ensures rose { result ≡ FolderEnd.Failed
+        → Rose (F.shown folder.old).faults (F.shown folder.new).faults }
 {
     match folder.write(alloc, &ObjName::Manifest, front, bytes) {
         FolderEnd::Done => {}

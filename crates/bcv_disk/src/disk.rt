@@ -48,7 +48,8 @@ pub trait Disk {
     fn read(&mut self, at: u64, into: &mut [u8]) -> DiskEnd
         requires within { told.tells → at + length into.old ≤ length (shown self.old).seen }
         requires fits { at + length into.old ≤ 2 ^ 32 }
-        ensures reads { DiskReads told (shown self.old) (shown self.new) at into.old into.new result }
+        ensures reads { DiskReads told (shown self.old)
+            (shown self.new) at into.old into.new result }
         ensures besides { besides self.old self.new (Read at (length into.old)) result };
 
     /// Writes over what is there, and past the end. Until a sync, a crash may leave any bytes in the range.

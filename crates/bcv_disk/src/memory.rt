@@ -34,7 +34,12 @@ impl MemDisk {
     /// An empty disk with no trouble set.
     pub fn new(alloc: Global) -> MemDisk
         ensures platter { result.platter ≡ untouched }
-        ensures trouble { trouble_of result ≡ record { burnt = false; fuse = None; failure = None; calls = 0 } }
+        ensures trouble { trouble_of result ≡ record {
+          burnt = false;
+          fuse = None;
+          failure = None;
+          calls = 0;
+        } }
         ensures faults { result.faults ≡ 0 }
     {
         MemDisk {
@@ -109,7 +114,8 @@ impl MemDisk {
         requires within { at + length into.old ≤ length (content self.old.platter.acts) }
         requires fits { at + length into.old ≤ 2 ^ 32 }
         ensures besides { SaysBesides self.old self.new (Read at (length into.old)) result }
-        ensures bytes { result ≡ DiskEnd.Done → into.new ≡ take (length into.old) (drop at (content self.old.platter.acts)) }
+        ensures bytes { result ≡ DiskEnd.Done → into.new
+            ≡ take (length into.old) (drop at (content self.old.platter.acts)) }
         ensures answers { result ≢ DiskEnd.NoMemory }
     {
         match self.strike() {

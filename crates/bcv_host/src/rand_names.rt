@@ -26,7 +26,8 @@ impl<R: TryRng> RandNames<R> {
 
     // The next two words, or `None` where the generator failed.
     fn words(&mut self) -> Option<(u64, u64)>
-        ensures words { IfSome result (λ pair. AreWords R.may_next_u64 self.old.rng self.new.rng pair.0 pair.1) }
+        ensures words { IfSome result (λ pair. AreWords R.may_next_u64 self.old.rng self.new.rng
+            pair.0 pair.1) }
         ensures faults { self.new.faults ≡ self.old.faults }
     {
         let Ok(first) = self.rng.try_next_u64() else {
@@ -45,7 +46,8 @@ impl<R: TryRng> Names for RandNames<R> {
     ghost shown = { λ names. untold_names (name_faults names) };
 
     fn draw(&mut self) -> Draw
-        ensures draws { Draws (untold_names (name_faults self.old)) (untold_names (name_faults self.new)) result }
+        ensures draws { Draws (untold_names (name_faults self.old))
+            (untold_names (name_faults self.new)) result }
         ensures words { (id : Id16) → result ≡ Draw.Drawn id
             → IsDrawn R.may_next_u64 (generator_of self.old) (generator_of self.new) id }
     {

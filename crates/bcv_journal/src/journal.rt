@@ -70,7 +70,8 @@ impl<D: Disk> Journal<D> {
         ensures start { result.0 ≡ start_at self.now }
         ensures tail { result.1 ≡ tail_at self.now }
         ensures order { (17 ≤ result.0) × (result.0 ≤ result.1) × (result.1 < 2 ^ 31) }
-        ensures leaves { (items : List (List ℕ)) → HasItems D.shown self.now items → LeavesItems (D.shown self.now.disk) items (tail_at self.now) }
+        ensures leaves { (items : List (List ℕ)) → HasItems D.shown self.now items
+            → LeavesItems (D.shown self.now.disk) items (tail_at self.now) }
     {
         (self.area.start, self.area.tail)
     }

@@ -21,13 +21,16 @@ pub const EMPTY: [u8; 18] = *b"BCVJRN02\0\0\0\0\x11\0\0\0\0\0";
 
 /// A file loads as one thing: as one list of items, or as no journal for one place.
 pub fn loads_once()
-    ensures { (bytes : List ℕ) (a b : Result (List (List ℕ)) ℕ) → Loads bytes a → Loads bytes b → a ≡ b }
+    ensures { (bytes : List ℕ) (a b : Result (List (List ℕ)) ℕ) → Loads bytes a → Loads bytes b
+        → a ≡ b }
 {}
 
 /// What ends at a tail loads so, and with one tail alone.
 pub fn tail_once()
-    ensures loads { (bytes : List ℕ) (items : List (List ℕ)) (tail : ℕ) → EndsAt bytes items tail → Loads bytes (Ok items) }
-    ensures once { (bytes : List ℕ) (items : List (List ℕ)) (tail other : ℕ) → EndsAt bytes items tail → EndsAt bytes items other → tail ≡ other }
+    ensures loads { (bytes : List ℕ) (items : List (List ℕ)) (tail : ℕ) → EndsAt bytes items tail
+        → Loads bytes (Ok items) }
+    ensures once { (bytes : List ℕ) (items : List (List ℕ)) (tail other : ℕ)
+        → EndsAt bytes items tail → EndsAt bytes items other → tail ≡ other }
 {}
 
 fn has_magic(bytes: &[u8]) -> bool
@@ -74,7 +77,8 @@ fn after_gate(rest: &[u8]) -> Option<&[u8]>
 
 /// What stands after an open gate: a whole item, and after it at least a gate.
 fn front_item(after: &[u8]) -> Option<(&[u8], &[u8])>
-    ensures { MatchOption result ((item next : List ℕ) → HasItem after.now item next → ⊥) (λ r. HasItem after.now r.0.now r.1.now) }
+    ensures { MatchOption result ((item next : List ℕ) → HasItem after.now item next
+        → ⊥) (λ r. HasItem after.now r.0.now r.1.now) }
 {
     let (size, rest) = after.split_first_chunk::<4>()?;
     let size = u32::from_be_bytes(*size) as usize;

@@ -67,11 +67,16 @@ fn zeros(alloc: Global, count: usize) -> Result<Vec<u8>, AllocError>
 /// Syncs a disk, and tells its length, unless the disk fails.
 fn synced_len<D: Disk>(disk: &mut D) -> Option<u64>
     ensures length { D.told.tells → IfSome result (λ n. n ≡ length (D.shown disk.old).seen) }
-    ensures seen { D.told.tells → IfSome result (λ _. (D.shown disk.new).seen ≡ (D.shown disk.old).seen) }
-    ensures durable { D.told.tells → IfSome result (λ _. Only (D.shown disk.old).seen (D.shown disk.new).may_leave) }
-    ensures crash { D.told.tells → Passes (D.shown disk.old) (D.shown disk.new) (D.shown disk.old).may_leave }
+    ensures seen { D.told.tells → IfSome result (λ _. (D.shown disk.new).seen
+        ≡ (D.shown disk.old).seen) }
+    ensures durable { D.told.tells → IfSome result
+        (λ _. Only (D.shown disk.old).seen (D.shown disk.new).may_leave) }
+    ensures crash { D.told.tells → Passes (D.shown disk.old) (D.shown disk.new)
+        (D.shown disk.old).may_leave }
     ensures fails { DiskFails D.told (D.shown disk.old) (D.shown disk.new) (result ≡ None) }
-    ensures calls { D.told.troubled → IfSome result (λ _. (D.shown disk.new).trouble.calls ≡ counted (D.shown disk.old).trouble.calls 2) }
+    ensures calls { D.told.troubled
+        → IfSome result (λ _. (D.shown disk.new).trouble.calls
+        ≡ counted (D.shown disk.old).trouble.calls 2) }
 {
     match disk.sync() {
         DiskEnd::Done => {}
@@ -90,7 +95,8 @@ pub fn load_items<D: Disk>(
     alloc: Global,
     disk: &mut D,
 ) -> Result<(Vec<Vec<u8>>, Area), JournalFault>
-    ensures { ItemsLoad D.told (D.shown disk.old) (D.shown disk.new) (load_calls (D.shown disk.old).seen) result }
+    ensures { ItemsLoad D.told (D.shown disk.old) (D.shown disk.new)
+        (load_calls (D.shown disk.old).seen) result }
 {
     let Some(size) = synced_len(disk) else {
         return Err(JournalFault::DiskFault);

@@ -14,7 +14,8 @@ pub fn place_for(block: &[u8], area: Area) -> u64
     requires low { 17 ≤ area.start }
     requires order { area.start ≤ area.tail }
     requires short { area.tail < 2 ^ 31 }
-    requires room { (17 + length block.now ≤ area.start) ⊎ (area.tail + 66 + (length block.now - 1) ≤ 2 ^ 31) }
+    requires room { (17 + length block.now ≤ area.start)
+        ⊎ (area.tail + 66 + (length block.now - 1) ≤ 2 ^ 31) }
     ensures place { result ≡ new_start (length block.now - 1) area.start area.tail }
     ensures apart { IsApart area result (length block.now) }
 {

@@ -32,7 +32,8 @@ impl<D: Disk> Ledger<D> {
     /// Commits to a known database. At `Fine` the commit is kept through a crash.
     pub fn commit(&mut self, alloc: Global, db: DbName, commit: Commit) -> Reply
         ensures commits { LedgerCommits D.told D.shown self.old self.new db commit result }
-        ensures steps { D.told.tells → CommitSteps D.shown self.old self.new db (writes_of commit) result }
+        ensures steps { D.told.tells → CommitSteps D.shown self.old self.new db
+            (writes_of commit) result }
     {
         let _ = commit_size(&commit);
         self.note_commit(alloc, db, commit)
@@ -82,7 +83,8 @@ impl<D: Disk> Ledger<D> {
 
     // Why a commit is refused, if it is.
     fn commit_reason(&self, db: &DbName, commit: &Commit) -> Option<Reply>
-        ensures reason { result ≡ commit_reason_in (parts_in self.now) db.now (writes_of commit.now) }
+        ensures reason { result ≡ commit_reason_in (parts_in self.now) db.now
+            (writes_of commit.now) }
         ensures small { commit.now.size < 2 ^ 32 }
     {
         let _ = commit_size(commit);
@@ -100,7 +102,8 @@ impl<D: Disk> Ledger<D> {
 
 // Why a commit is refused, by the view of its database.
 fn commit_reason_by(closed: bool, commit: &Commit, view: Option<DatabaseView<'_>>) -> Option<Reply>
-    ensures { result ≡ commit_reason_by closed (writes_of commit.now) (option_map shown_view view.entry) }
+    ensures { result ≡ commit_reason_by closed (writes_of commit.now)
+        (option_map shown_view view.entry) }
 {
     if closed {
         return Some(Reply::Closed);

@@ -78,7 +78,8 @@ impl<D: Disk> Ledger<D> {
     pub fn unmade(&mut self, alloc: Global, id: Id16) -> Option<Reply>
         requires waits { is_some self.old.databases.kept.pending ≡ true }
         requires is_open { is_shut self.old.log ≡ false }
-        ensures ends { NoteEnds D.told D.shown self.old self.new (Void id) self.old.databases.known result }
+        ensures ends { NoteEnds D.told D.shown self.old self.new
+            (Void id) self.old.databases.known result }
         ensures fits { result ≢ Some Reply.JournalFull }
     {
         noted_fault(self.void(alloc, id))
@@ -109,7 +110,8 @@ impl<D: Disk> Ledger<D> {
         requires order { Ascends db_name manifest.now.dbs }
         ensures log { self.new.log ≡ self.old.log }
         ensures kept { self.new.databases.kept ≡ self.old.databases.kept }
-        ensures known { OnOk result (self.new.databases.known ≡ known_of self.old.databases.kept manifest.now) }
+        ensures known { OnOk result (self.new.databases.known
+            ≡ known_of self.old.databases.kept manifest.now) }
         ensures sets { self.new.databases.sets ≡ self.old.databases.sets }
         ensures same { IfErr result (λ e. self.new.databases ≡ self.old.databases) }
     {

@@ -85,7 +85,8 @@ impl<D: Disk> Ledger<D> {
     /// The disk back. A crash leaves what the log holds.
     pub fn down(self) -> D
         ensures disk { result ≡ log_disk self.log }
-        ensures leaves { (k : Kept) → Holds D.shown self.log k → (image : List ℕ) → (D.shown result).may_leave image
+        ensures leaves { (k : Kept) → Holds D.shown self.log k → (image : List ℕ)
+            → (D.shown result).may_leave image
             → LoadsAs image k (log_tail self.log + log_area self.log) }
     {
         let Ledger { log, databases: _ } = self;

@@ -60,7 +60,9 @@ impl Lines {
     pub fn next<I: Source>(&mut self, input: &mut I) -> Next
         requires unended { I.ended input.old ≡ false }
         ensures goes_on { result ≡ Next.Line → I.ended input.new ≡ false }
-        ensures read { (taken : List ℕ) × Consumes (I.left input.old) (I.left input.new) taken × GivesLine result self.old.used (self.old.chunk ++ taken) (IsAtEnd (I.left input.new)) self.new.line.items self.new.chunk }
+        ensures read { (taken : List ℕ) × Consumes (I.left input.old) (I.left input.new) taken
+            × GivesLine result self.old.used (self.old.chunk ++ taken)
+            (IsAtEnd (I.left input.new)) self.new.line.items self.new.chunk }
         ensures counts { CountsLine result self.old.used self.new.used self.new.line.items }
         ensures later { I.faults input.old ≤ I.faults input.new }
         ensures cause { result ≡ Next.ReadFault → Rose (I.faults input.old) (I.faults input.new) }
@@ -95,7 +97,8 @@ impl Lines {
     // Moves the bytes up to the chunk's first newline, or all of them, to the end of the line.
     fn gather(&mut self) -> Piece
         requires { has_newline self.old.line.items ≡ false }
-        ensures bytes { Gathers result self.old.used (self.old.line.items ++ self.old.chunk) self.new.line.items self.new.chunk }
+        ensures bytes { Gathers result self.old.used (self.old.line.items ++ self.old.chunk)
+            self.new.line.items self.new.chunk }
         ensures counts { CountsPiece result self.old.used self.new.used self.new.line.items }
     {
         match newline_in(self.chunk.bytes()) {
@@ -108,7 +111,8 @@ impl Lines {
     fn end_line(&mut self, end: usize) -> Piece
         requires line { has_newline self.old.line.items ≡ false }
         requires end { IsFirstNewline self.old.chunk end }
-        ensures bytes { Gathers result self.old.used (self.old.line.items ++ self.old.chunk) self.new.line.items self.new.chunk }
+        ensures bytes { Gathers result self.old.used (self.old.line.items ++ self.old.chunk)
+            self.new.line.items self.new.chunk }
         ensures counts { CountsPiece result self.old.used self.new.used self.new.line.items }
         ensures ends { result ≢ Piece.Part }
     {
@@ -132,7 +136,8 @@ impl Lines {
     fn add_chunk(&mut self) -> Piece
         requires line { has_newline self.old.line.items ≡ false }
         requires chunk { has_newline self.old.chunk ≡ false }
-        ensures bytes { Gathers result self.old.used (self.old.line.items ++ self.old.chunk) self.new.line.items self.new.chunk }
+        ensures bytes { Gathers result self.old.used (self.old.line.items ++ self.old.chunk)
+            self.new.line.items self.new.chunk }
         ensures counts { CountsPiece result self.old.used self.new.used self.new.line.items }
     {
         let more = self.chunk.bytes().len();

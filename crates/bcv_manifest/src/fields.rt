@@ -46,7 +46,8 @@ pub(crate) fn id_of(bytes: &[u8]) -> Result<(Id16, &[u8]), Stop>
 
 /// The bytes after the magic.
 pub(crate) fn after_magic(bytes: &[u8]) -> Result<&[u8], Stop>
-    ensures { Gives (λ rest. (magic, rest.now)) result (such (bytes_at 8) (λ k. bytes_eq k magic) bytes.now) }
+    ensures { Gives (λ rest. (magic, rest.now)) result
+        (such (bytes_at 8) (λ k. bytes_eq k magic) bytes.now) }
 {
     let (field, rest) = array_of::<8>(bytes)?;
     if *field != MAGIC {
@@ -57,7 +58,8 @@ pub(crate) fn after_magic(bytes: &[u8]) -> Result<&[u8], Stop>
 
 /// A number from 1 on.
 pub(crate) fn version_of(bytes: &[u8]) -> Result<(u64, &[u8]), Stop>
-    ensures { Gives (λ x. (x.0, x.1.now)) result (such (number_at w64) (λ n. nat_le 1 n) bytes.now) }
+    ensures { Gives (λ x. (x.0, x.1.now)) result (such (number_at w64)
+        (λ n. nat_le 1 n) bytes.now) }
 {
     let (number, rest) = u64_of(bytes)?;
     if number < 1 {
@@ -68,7 +70,8 @@ pub(crate) fn version_of(bytes: &[u8]) -> Result<(u64, &[u8]), Stop>
 
 /// A number from 1 to the most.
 pub(crate) fn number_of(most: u64, bytes: &[u8]) -> Result<(u64, &[u8]), Stop>
-    ensures { Gives (λ x. (x.0, x.1.now)) result (such (number_at w64) (λ n. nat_le 1 n && nat_le n most) bytes.now) }
+    ensures { Gives (λ x. (x.0, x.1.now)) result (such (number_at w64)
+        (λ n. nat_le 1 n && nat_le n most) bytes.now) }
 {
     let (number, rest) = u64_of(bytes)?;
     if number < 1 || number > most {
@@ -79,7 +82,8 @@ pub(crate) fn number_of(most: u64, bytes: &[u8]) -> Result<(u64, &[u8]), Stop>
 
 /// A count of at most so many.
 pub(crate) fn count_of(most: u32, bytes: &[u8]) -> Result<(u32, &[u8]), Stop>
-    ensures { Gives (λ x. (x.0, x.1.now)) result (such (number_at w32) (λ n. nat_le n most) bytes.now) }
+    ensures { Gives (λ x. (x.0, x.1.now)) result (such (number_at w32)
+        (λ n. nat_le n most) bytes.now) }
 {
     let (count, rest) = u32_of(bytes)?;
     if count > most {
@@ -90,7 +94,8 @@ pub(crate) fn count_of(most: u32, bytes: &[u8]) -> Result<(u32, &[u8]), Stop>
 
 /// The length of a name.
 pub(crate) fn name_len_of(bytes: &[u8]) -> Result<(u8, &[u8]), Stop>
-    ensures { Gives (λ x. (x.0, x.1.now)) result (such (number_at w8) (λ n. nat_le 1 n && nat_le n 64) bytes.now) }
+    ensures { Gives (λ x. (x.0, x.1.now)) result (such (number_at w8)
+        (λ n. nat_le 1 n && nat_le n 64) bytes.now) }
 {
     let (field, rest) = array_of::<1>(bytes)?;
     let len = field[0];
@@ -106,7 +111,8 @@ pub(crate) fn name_of(
     before: Option<DbName>,
     bytes: &[u8],
 ) -> Result<(DbName, &[u8]), Stop>
-    ensures { Gives (λ x. (x.0, x.1.now)) result (such (bytes_at len) (λ k. is_name k && is_above before k) bytes.now) }
+    ensures { Gives (λ x. (x.0, x.1.now)) result (such (bytes_at len)
+        (λ k. is_name k && is_above before k) bytes.now) }
 {
     let len = len as usize;
     if bytes.len() < len {

@@ -28,7 +28,8 @@ fn room(count: usize, bytes: &[u8], size: usize) -> usize
 }
 
 fn id_above_of(before: Option<Id16>, bytes: &[u8]) -> Result<(Id16, &[u8]), Stop>
-    ensures { Gives (λ x. (x.0, x.1.now)) result (such id_at (λ i. is_above (option_map (λ b. b.0) before) i.0) bytes.now) }
+    ensures { Gives (λ x. (x.0, x.1.now)) result (such id_at
+        (λ i. is_above (option_map (λ b. b.0) before) i.0) bytes.now) }
 {
     let (id, rest) = id_of(bytes)?;
     if !is_id_above(before, &id) {
@@ -39,7 +40,8 @@ fn id_above_of(before: Option<Id16>, bytes: &[u8]) -> Result<(Id16, &[u8]), Stop
 
 #[tactic(auto, unfolding(bcv_base::specs::ManifestGrammar::writer_at))]
 fn writer_of(most: u64, before: Option<Id16>, bytes: &[u8]) -> Result<(Writer, &[u8]), Stop>
-    ensures { Gives (λ x. (x.0, x.1.now)) result (writer_at most (option_map (λ b. b.0) before) bytes.now) }
+    ensures { Gives (λ x. (x.0, x.1.now)) result (writer_at most
+        (option_map (λ b. b.0) before) bytes.now) }
 {
     let (id, rest) = id_above_of(before, bytes)?;
     let (last, rest) = id_of(rest)?;
@@ -53,7 +55,8 @@ pub(crate) fn writers_of(
     count: u32,
     bytes: &[u8],
 ) -> Result<(Vec<Writer>, &[u8]), Stop>
-    ensures { Gives (λ x. (x.0.items, x.1.now)) result (items_at writer_id (writer_at most) count None bytes.now) }
+    ensures { Gives (λ x. (x.0.items, x.1.now)) result
+        (items_at writer_id (writer_at most) count None bytes.now) }
 {
     let mut writers = Vec::with_capacity(alloc, room(count as usize, bytes, 40))?;
     let mut rest = bytes;
@@ -68,7 +71,8 @@ pub(crate) fn writers_of(
 }
 
 fn ids_of(alloc: Global, count: usize, bytes: &[u8]) -> Result<(Vec<Id16>, &[u8]), Stop>
-    ensures { Gives (λ x. (x.0.items, x.1.now)) result (items_at id_text (λ _. id_at) count None bytes.now) }
+    ensures { Gives (λ x. (x.0.items, x.1.now)) result
+        (items_at id_text (λ _. id_at) count None bytes.now) }
 {
     let mut ids = Vec::with_capacity(alloc, room(count, bytes, 16))?;
     let mut rest = bytes;
@@ -82,7 +86,8 @@ fn ids_of(alloc: Global, count: usize, bytes: &[u8]) -> Result<(Vec<Id16>, &[u8]
 
 // The size of a database's pages.
 fn page_size_of(block: u32, bytes: &[u8]) -> Result<(u32, &[u8]), Stop>
-    ensures { Gives (λ x. (x.0, x.1.now)) result (such (number_at w32) (is_page_size block) bytes.now) }
+    ensures { Gives (λ x. (x.0, x.1.now)) result (such (number_at w32)
+        (is_page_size block) bytes.now) }
 {
     let (size, rest) = u32_of(bytes)?;
     if !is_page_size(block, size) {
@@ -94,7 +99,8 @@ fn page_size_of(block: u32, bytes: &[u8]) -> Result<(u32, &[u8]), Stop>
 // How many pages a database has.
 fn pages_of(block: u32, page_size: u32, bytes: &[u8]) -> Result<(u32, &[u8]), Stop>
     requires { 1 ≤ block }
-    ensures { Gives (λ x. (x.0, x.1.now)) result (such (number_at w32) (λ n. nat_le (blocks_needed block page_size n) most_blocks) bytes.now) }
+    ensures { Gives (λ x. (x.0, x.1.now)) result (such (number_at w32)
+        (λ n. nat_le (blocks_needed block page_size n) most_blocks) bytes.now) }
 {
     let (pages, rest) = u32_of(bytes)?;
     if blocks_needed(block, page_size, pages) > u64::from(MOST_BLOCKS) {
@@ -142,7 +148,8 @@ pub(crate) fn entries_of(
     bytes: &[u8],
 ) -> Result<(Vec<DbEntry>, &[u8]), Stop>
     requires { 1 ≤ block }
-    ensures { Gives (λ x. (x.0.items, x.1.now)) result (items_at db_name (entry_at block) count None bytes.now) }
+    ensures { Gives (λ x. (x.0.items, x.1.now)) result
+        (items_at db_name (entry_at block) count None bytes.now) }
 {
     let mut dbs = Vec::with_capacity(alloc, room(count as usize, bytes, 26))?;
     let mut rest = bytes;
@@ -166,7 +173,8 @@ fn dead_of<'a>(
     bytes: &'a [u8],
 ) -> Result<(Dead, &'a [u8]), Stop>
     requires { IsSorted (λ a b. slice_cmp nat_cmp a.0 b.0) listed.now }
-    ensures { Gives (λ x. (x.0, x.1.now)) result (dead_at (λ i. has_id i listed.now) (option_map (λ b. b.0) before) bytes.now) }
+    ensures { Gives (λ x. (x.0, x.1.now)) result (dead_at (λ i. has_id i listed.now)
+        (option_map (λ b. b.0) before) bytes.now) }
 {
     let (id, rest) = id_above_of(before, bytes)?;
     if is_one_of(listed, &id) {
@@ -183,7 +191,8 @@ fn dead_list_of<'a>(
     bytes: &'a [u8],
 ) -> Result<(Vec<Dead>, &'a [u8]), Stop>
     requires { IsSorted (λ a b. slice_cmp nat_cmp a.0 b.0) listed.now }
-    ensures { Gives (λ x. (x.0.items, x.1.now)) result (items_at dead_id (dead_at (λ i. has_id i listed.now)) count None bytes.now) }
+    ensures { Gives (λ x. (x.0.items, x.1.now)) result
+        (items_at dead_id (dead_at (λ i. has_id i listed.now)) count None bytes.now) }
 {
     let mut dead = Vec::with_capacity(alloc, room(count as usize, bytes, 24))?;
     let mut rest = bytes;
@@ -204,7 +213,8 @@ fn right_dead_blocks_of<'a>(
     count: u32,
     bytes: &'a [u8],
 ) -> Option<(Vec<Dead>, &'a [u8])>
-    ensures { IfSome result (λ x. items_at dead_id (dead_at (lists dbs.now)) count None bytes.now ≡ Ok (x.0.items, x.1.now)) }
+    ensures { IfSome result (λ x. items_at dead_id (dead_at (lists dbs.now)) count None bytes.now
+        ≡ Ok (x.0.items, x.1.now)) }
 {
     let Ok((dead, rest)) = dead_list_of(alloc, &[], count, bytes) else {
         return None;
@@ -222,7 +232,8 @@ pub(crate) fn dead_blocks_of<'a>(
     count: u32,
     bytes: &'a [u8],
 ) -> Result<(Vec<Dead>, &'a [u8]), Stop>
-    ensures { Gives (λ x. (x.0.items, x.1.now)) result (items_at dead_id (dead_at (lists dbs.now)) count None bytes.now) }
+    ensures { Gives (λ x. (x.0.items, x.1.now)) result
+        (items_at dead_id (dead_at (lists dbs.now)) count None bytes.now) }
 {
     if let Some(list) = right_dead_blocks_of(alloc, dbs, count, bytes) {
         return Ok(list);

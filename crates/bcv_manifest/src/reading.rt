@@ -27,7 +27,8 @@ fn block_size_of(bytes: &[u8]) -> Result<(u32, &[u8]), Stop>
 
 #[tactic(auto, unfolding(bcv_base::specs::ManifestGrammar::counted_at))]
 fn counted_writers(alloc: Global, most: u64, bytes: &[u8]) -> Result<(Vec<Writer>, &[u8]), Stop>
-    ensures { Gives (λ x. (x.0.items, x.1.now)) result (counted_at most_writers writer_id (writer_at most) bytes.now) }
+    ensures { Gives (λ x. (x.0.items, x.1.now)) result
+        (counted_at most_writers writer_id (writer_at most) bytes.now) }
 {
     let (count, rest) = count_of(MOST_WRITERS, bytes)?;
     writers_of(alloc, most, count, rest)
@@ -36,7 +37,8 @@ fn counted_writers(alloc: Global, most: u64, bytes: &[u8]) -> Result<(Vec<Writer
 #[tactic(auto, unfolding(bcv_base::specs::ManifestGrammar::counted_at))]
 fn counted_entries(alloc: Global, block: u32, bytes: &[u8]) -> Result<(Vec<DbEntry>, &[u8]), Stop>
     requires { 1 ≤ block }
-    ensures { Gives (λ x. (x.0.items, x.1.now)) result (counted_at most_databases db_name (entry_at block) bytes.now) }
+    ensures { Gives (λ x. (x.0.items, x.1.now)) result
+        (counted_at most_databases db_name (entry_at block) bytes.now) }
 {
     let (count, rest) = count_of(MOST_DATABASES, bytes)?;
     entries_of(alloc, block, count, rest)
@@ -48,7 +50,8 @@ fn counted_dead<'a>(
     dbs: &[DbEntry],
     bytes: &'a [u8],
 ) -> Result<(Vec<Dead>, &'a [u8]), Stop>
-    ensures { Gives (λ x. (x.0.items, x.1.now)) result (counted_at most_dead dead_id (dead_at (lists dbs.now)) bytes.now) }
+    ensures { Gives (λ x. (x.0.items, x.1.now)) result
+        (counted_at most_dead dead_id (dead_at (lists dbs.now)) bytes.now) }
 {
     let (count, rest) = count_of(MOST_DEAD, bytes)?;
     dead_blocks_of(alloc, dbs, count, rest)
@@ -146,9 +149,11 @@ fn entry_answer(alloc: Global, block: u32, bytes: &[u8]) -> Result<(DbEntry, usi
 /// The manifest that the bytes are, all of them.
 pub fn read_manifest(alloc: Global, bytes: &[u8]) -> Result<Manifest, ReadFault>
     // What is read meets the rules, and is spelled so.
-    ensures found { IfOk result (λ m. MeetsRules m × MeetsLimits m × (bytes.now ≡ manifest_text m)) }
+    ensures found { IfOk result (λ m. MeetsRules m × MeetsLimits m
+        × (bytes.now ≡ manifest_text m)) }
     // What meets the rules and is spelled so is read, unless memory runs out.
-    ensures only { (m : Manifest) → MeetsRules m → MeetsLimits m → IsShort m → bytes.now ≡ manifest_text m → Answers (λ x. x) result (Ok m) }
+    ensures only { (m : Manifest) → MeetsRules m → MeetsLimits m → IsShort m
+        → bytes.now ≡ manifest_text m → Answers (λ x. x) result (Ok m) }
     // Where the fault is.
     ensures exact { Answers (λ x. x) result (manifest_of bytes.now) }
 {
@@ -160,9 +165,11 @@ pub fn read_manifest(alloc: Global, bytes: &[u8]) -> Result<Manifest, ReadFault>
 pub fn read_entry(alloc: Global, block: u32, bytes: &[u8]) -> Result<(DbEntry, usize), ReadFault>
     requires { is_block_size block ≡ true }
     // What is read meets the rules, and is spelled so.
-    ensures found { IfOk result (λ x. MeetsEntryRules block x.0 × (x.1 ≡ entry_length x.0) × ((rest : List ℕ) × (bytes.now ≡ entry_text x.0 ++ rest))) }
+    ensures found { IfOk result (λ x. MeetsEntryRules block x.0 × (x.1 ≡ entry_length x.0)
+        × ((rest : List ℕ) × (bytes.now ≡ entry_text x.0 ++ rest))) }
     // What meets the rules and is spelled so is read, unless memory runs out.
-    ensures only { (d : DbEntry) (rest : List ℕ) → MeetsEntryRules block d → bytes.now ≡ entry_text d ++ rest → Answers (λ x. x) result (Ok (d, entry_length d)) }
+    ensures only { (d : DbEntry) (rest : List ℕ) → MeetsEntryRules block d
+        → bytes.now ≡ entry_text d ++ rest → Answers (λ x. x) result (Ok (d, entry_length d)) }
     // Where the fault is.
     ensures exact { Answers (λ x. x) result (entry_of block bytes.now) }
 {

@@ -62,7 +62,8 @@ fn put_ids(out: &mut Vec<u8>, ids: &[Id16]) -> Result<(), AllocError>
 }
 
 fn put_name(out: &mut Vec<u8>, name: &DbName) -> Result<(), AllocError>
-    ensures { OnOk result (out.new.items ≡ out.old.items ++ (to_be_bytes w8 (length name.now) ++ name.now)) }
+    ensures { OnOk result (out.new.items ≡ out.old.items
+        ++ (to_be_bytes w8 (length name.now) ++ name.now)) }
 {
     let text = name.text();
     out.push(text.len() as u8)?;

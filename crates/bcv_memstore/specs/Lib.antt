@@ -3,3 +3,4 @@ pub mod EtagLaws
 pub mod Index
 pub mod Planned
 pub mod Told
+pub mod Odd

@@ -58,7 +58,9 @@ impl History {
 
     /// The bytes and the etag of the object of a name, where there is one.
     pub fn object(&self, name: &ObjName) -> Option<(&[u8], u64)>
-        ensures { MatchOption result (object_of name.now self.now ≡ None) (λ found. object_of name.now self.now ≡ Some (record { bytes = found.0.now; etag = found.1 })) }
+        ensures { MatchOption result (object_of name.now self.now ≡ None)
+            (λ found. object_of name.now self.now
+            ≡ Some (record { bytes = found.0.now; etag = found.1 })) }
     {
         match self.entries.get(self.places.get(name)?)? {
             Entry::Put { bytes, etag, .. } => Some((bytes.items(), *etag)),
@@ -68,7 +70,8 @@ impl History {
 
     /// Adds an own put.
     pub fn add_put(&mut self, name: &ObjName, bytes: Seq<u8>, etag: u64) -> Result<(), AllocError>
-        ensures { self.new ≡ (if is_ok result then self.old ++ entry.Put true name.now bytes etag ∷ [] else self.old) }
+        ensures { self.new ≡ (if is_ok result then self.old
+            ++ entry.Put true name.now bytes etag ∷ [] else self.old) }
     {
         self.entries.reserve(1)?;
         self.places.set(name, self.entries.len())?;
@@ -87,7 +90,8 @@ impl History {
 
     /// Adds an own deletion.
     pub fn add_deletion(&mut self, name: &ObjName, at: u64) -> Result<(), AllocError>
-        ensures { self.new ≡ (if is_ok result then self.old ++ entry.Deleted true name.now at ∷ [] else self.old) }
+        ensures { self.new ≡ (if is_ok result then self.old ++ entry.Deleted true name.now at ∷ []
+            else self.old) }
     {
         self.entries.reserve(1)?;
         self.places.remove(name);
@@ -123,7 +127,8 @@ impl History {
     /// Answers a get. `into` is empty.
     pub fn read(&self, name: &ObjName, unless: Option<u64>, into: &mut Vec<u8>, most: usize) -> Got
         requires { into.old.items ≡ [] }
-        ensures told { GetAnswers outcome.Ok (object_of name.now self.now) unless most into.new.items result }
+        ensures told { GetAnswers outcome.Ok (object_of name.now self.now) unless most
+            into.new.items result }
         ensures within { IsGotWithin unless most into.new.items result }
         ensures answered { result ≢ Got.Failed }
     {
@@ -146,7 +151,8 @@ impl History {
     /// Answers a list. `into` is empty.
     pub fn list(&self, after: Option<&Id16>, into: &mut Vec<Id16>) -> Listed
         requires { into.old.items ≡ [] }
-        ensures told { ListAnswers outcome.Ok self.now (option_copied after.entry) into.new.items result }
+        ensures told { ListAnswers outcome.Ok self.now
+            (option_copied after.entry) into.new.items result }
         ensures within { IsListedWithin (option_copied after.entry) into.new.items result }
         ensures answered { result ≢ Listed.Failed }
     {

@@ -7,7 +7,9 @@
 
 mod history;
 mod mem_store;
+mod odd_store;
 mod places;
 mod plan;
 
 pub use mem_store::MemStore;
+pub use odd_store::{OddStore, Oddity};

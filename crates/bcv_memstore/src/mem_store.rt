@@ -57,7 +57,8 @@ impl MemStore {
     /// Sets the outcome of the request after `calls` further ones. Without memory nothing is planned.
     pub fn plan_at(&mut self, calls: u32, outcome: Outcome) -> Result<(), AllocError>
         ensures log { log_of self.new ≡ log_of self.old }
-        ensures plan { plan_of self.new ≡ (if is_ok result then planned_at calls outcome (plan_of self.old) else plan_of self.old) }
+        ensures plan { plan_of self.new ≡ (if is_ok result
+            then planned_at calls outcome (plan_of self.old) else plan_of self.old) }
         ensures faults { faults_of self.new ≡ faults_of self.old }
     {
         self.plan.set(calls, outcome)
@@ -89,7 +90,8 @@ impl MemStore {
 
     // Puts an object without regard to the plan.
     fn write(&mut self, alloc: Global, name: &ObjName, cond: Cond, bytes: &[u8]) -> Put
-        ensures told { PutAnswers outcome.Ok (holds cond (object_of name.now (log_of self.old))) (log_of self.old) (log_of self.new) name.now bytes.now result }
+        ensures told { PutAnswers outcome.Ok (holds cond (object_of name.now (log_of self.old)))
+            (log_of self.old) (log_of self.new) name.now bytes.now result }
         ensures numbered { IsNumbered (log_of self.new) result }
         ensures answered { result ≢ Put.Failed }
         ensures plan { plan_of self.new ≡ plan_of self.old }
@@ -106,7 +108,8 @@ impl MemStore {
 
     // Appends a deletion without regard to the plan.
     fn erase(&mut self, name: &ObjName, at: u64) -> Del
-        ensures told { DeleteAnswers outcome.Ok (log_of self.old) (log_of self.new) name.now at result }
+        ensures told { DeleteAnswers outcome.Ok (log_of self.old)
+            (log_of self.new) name.now at result }
         ensures answered { result ≢ Del.Failed }
         ensures plan { plan_of self.new ≡ plan_of self.old }
         ensures faults { faults_of self.new ≡ faults_of self.old }
@@ -119,11 +122,13 @@ impl MemStore {
 
     // Puts an object and loses the answer, but for want of memory, which is told.
     fn lose_put(&mut self, alloc: Global, name: &ObjName, cond: Cond, bytes: &[u8]) -> Put
-        ensures told { PutAnswers outcome.Lost (holds cond (object_of name.now (log_of self.old))) (log_of self.old) (log_of self.new) name.now bytes.now result }
+        ensures told { PutAnswers outcome.Lost (holds cond (object_of name.now (log_of self.old)))
+            (log_of self.old) (log_of self.new) name.now bytes.now result }
         ensures numbered { IsNumbered (log_of self.new) result }
         ensures plan { plan_of self.new ≡ plan_of self.old }
         ensures later { faults_of self.old ≤ faults_of self.new }
-        ensures counts { CountsFault (result ≡ Put.Failed) (faults_of self.old) (faults_of self.new) }
+        ensures counts { CountsFault (result ≡ Put.Failed) (faults_of self.old)
+            (faults_of self.new) }
     {
         match self.write(alloc, name, cond, bytes) {
             Put::NoMemory => Put::NoMemory,
@@ -136,10 +141,12 @@ impl MemStore {
 
     // Appends a deletion and loses the answer, but for want of memory, which is told.
     fn lose_deletion(&mut self, name: &ObjName, at: u64) -> Del
-        ensures told { DeleteAnswers outcome.Lost (log_of self.old) (log_of self.new) name.now at result }
+        ensures told { DeleteAnswers outcome.Lost (log_of self.old)
+            (log_of self.new) name.now at result }
         ensures plan { plan_of self.new ≡ plan_of self.old }
         ensures later { faults_of self.old ≤ faults_of self.new }
-        ensures counts { CountsFault (result ≡ Del.Failed) (faults_of self.old) (faults_of self.new) }
+        ensures counts { CountsFault (result ≡ Del.Failed) (faults_of self.old)
+            (faults_of self.new) }
     {
         match self.erase(name, at) {
             Del::NoMemory => Del::NoMemory,
@@ -152,7 +159,8 @@ impl MemStore {
 
     // Appends a put, whose etag is the number of the entries with it.
     fn append(&mut self, alloc: Global, name: &ObjName, bytes: &[u8]) -> Result<u64, AllocError>
-        ensures added { IfOk result (λ etag. Adds (log_of self.old) (log_of self.new) name.now bytes.now etag) }
+        ensures added { IfOk result (λ etag. Adds (log_of self.old)
+            (log_of self.new) name.now bytes.now etag) }
         ensures numbered { IfOk result (λ etag. etag ≡ length (log_of self.new)) }
         ensures kept { OnErr result (log_of self.new ≡ log_of self.old) }
         ensures plan { plan_of self.new ≡ plan_of self.old }
@@ -185,9 +193,11 @@ impl Store for MemStore {
         into: &mut Vec<u8>,
         most: usize,
     ) -> Got
-        ensures gets { StoreGets told_here (shown_by self.old) (shown_by self.new) name.now unless most into.new.items result }
+        ensures gets { StoreGets told_here (shown_by self.old)
+            (shown_by self.new) name.now unless most into.new.items result }
         ensures reached { faults_of self.old ≤ faults_of self.new }
-        ensures counts { CountsFault (result ≡ Got.Failed) (faults_of self.old) (faults_of self.new) }
+        ensures counts { CountsFault (result ≡ Got.Failed) (faults_of self.old)
+            (faults_of self.new) }
     {
         let _ = alloc;
         into.clear();
@@ -201,9 +211,11 @@ impl Store for MemStore {
     }
 
     fn put(&mut self, alloc: Global, name: &ObjName, cond: Cond, bytes: &[u8]) -> Put
-        ensures puts { StorePuts told_here (shown_by self.old) (shown_by self.new) name.now cond bytes.now result }
+        ensures puts { StorePuts told_here (shown_by self.old)
+            (shown_by self.new) name.now cond bytes.now result }
         ensures reached { faults_of self.old ≤ faults_of self.new }
-        ensures counts { CountsFault (result ≡ Put.Failed) (faults_of self.old) (faults_of self.new) }
+        ensures counts { CountsFault (result ≡ Put.Failed) (faults_of self.old)
+            (faults_of self.new) }
         ensures numbered { IsNumbered (log_of self.new) result }
     {
         match self.plan.take() {
@@ -217,9 +229,11 @@ impl Store for MemStore {
     }
 
     fn delete(&mut self, alloc: Global, name: &ObjName, at: u64) -> Del
-        ensures deletes { StoreDeletes told_here (shown_by self.old) (shown_by self.new) name.now at result }
+        ensures deletes { StoreDeletes told_here (shown_by self.old)
+            (shown_by self.new) name.now at result }
         ensures reached { faults_of self.old ≤ faults_of self.new }
-        ensures counts { CountsFault (result ≡ Del.Failed) (faults_of self.old) (faults_of self.new) }
+        ensures counts { CountsFault (result ≡ Del.Failed) (faults_of self.old)
+            (faults_of self.new) }
     {
         let _ = alloc;
         match self.plan.take() {
@@ -233,9 +247,11 @@ impl Store for MemStore {
     }
 
     fn list(&mut self, alloc: Global, after: Option<&Id16>, into: &mut Vec<Id16>) -> Listed
-        ensures lists { StoreLists told_here (shown_by self.old) (shown_by self.new) (option_copied after.entry) into.new.items result }
+        ensures lists { StoreLists told_here (shown_by self.old) (shown_by self.new)
+            (option_copied after.entry) into.new.items result }
         ensures reached { faults_of self.old ≤ faults_of self.new }
-        ensures counts { CountsFault (result ≡ Listed.Failed) (faults_of self.old) (faults_of self.new) }
+        ensures counts { CountsFault (result ≡ Listed.Failed) (faults_of self.old)
+            (faults_of self.new) }
     {
         let _ = alloc;
         into.clear();

@@ -44,8 +44,10 @@ impl Places {
 
     /// Gives a name this place.
     pub fn set(&mut self, name: &ObjName, place: usize) -> Result<(), AllocError>
-        ensures set { OnOk result ((other : ObjName) → place_of self.new other ≡ (if name_eq name.now other then Some place else place_of self.old other)) }
-        ensures kept { OnErr result ((other : ObjName) → place_of self.new other ≡ place_of self.old other) }
+        ensures set { OnOk result ((other : ObjName) → place_of self.new other
+            ≡ (if name_eq name.now other then Some place else place_of self.old other)) }
+        ensures kept { OnErr result ((other : ObjName)
+            → place_of self.new other ≡ place_of self.old other) }
     {
         match name {
             ObjName::Manifest => {
@@ -60,7 +62,8 @@ impl Places {
 
     /// Takes the place of a name away.
     pub fn remove(&mut self, name: &ObjName)
-        ensures { (other : ObjName) → place_of self.new other ≡ (if name_eq name.now other then None else place_of self.old other) }
+        ensures { (other : ObjName) → place_of self.new other
+            ≡ (if name_eq name.now other then None else place_of self.old other) }
     {
         match name {
             ObjName::Manifest => {
@@ -76,7 +79,8 @@ impl Places {
     /// further ones.
     pub fn ids_above(&self, after: Option<&Id16>, into: &mut Vec<Id16>) -> Result<bool, AllocError>
         requires { into.old.items ≡ [] }
-        ensures listed { IfOk result (λ more. (more ≡ nat_lt list_most (length (ids_past (option_copied after.entry) self.now)))
+        ensures listed { IfOk result (λ more. (more ≡ nat_lt list_most
+            (length (ids_past (option_copied after.entry) self.now)))
             × (into.new.items ≡ take list_most (ids_past (option_copied after.entry) self.now))) }
         ensures ordered { IsOrdered id_cmp self.now.blocks }
     {

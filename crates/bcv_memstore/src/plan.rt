@@ -48,7 +48,8 @@ impl Plan {
 
     /// Sets the outcome of the request after `calls` further ones. Without memory nothing is planned.
     pub fn set(&mut self, calls: u32, outcome: Outcome) -> Result<(), AllocError>
-        ensures { self.new ≡ (if is_ok result then planned_at calls outcome self.old else self.old) }
+        ensures { self.new ≡ (if is_ok result then planned_at calls outcome self.old
+            else self.old) }
     {
         if calls == 0 {
             self.set_next(outcome);
@@ -75,7 +76,8 @@ impl Plan {
 // Sets the outcome at a place, with `Ok` at each place before it that had none.
 fn set_at(later: &mut VecDeque<Outcome>, place: usize, outcome: Outcome) -> Result<(), AllocError>
     requires { place < 2 ^ 32 }
-    ensures { later.new.items ≡ (if is_ok result then planned_at place outcome later.old.items else later.old.items) }
+    ensures { later.new.items ≡ (if is_ok result then planned_at place outcome later.old.items
+        else later.old.items) }
 {
     pad(later, place)?;
     later[place] = outcome;
@@ -85,7 +87,9 @@ fn set_at(later: &mut VecDeque<Outcome>, place: usize, outcome: Outcome) -> Resu
 // Adds `Ok` at the end until there is a place of this number.
 fn pad(later: &mut VecDeque<Outcome>, place: usize) -> Result<(), AllocError>
     requires { place < 2 ^ 32 }
-    ensures padded { later.new.items ≡ (if is_ok result then later.old.items ++ replicate (place + 1 - length later.old.items) Outcome.Ok else later.old.items) }
+    ensures padded { later.new.items ≡ (if is_ok result
+        then later.old.items ++ replicate (place + 1 - length later.old.items) Outcome.Ok
+        else later.old.items) }
     ensures there { OnOk result (place < deque_len later.new) }
 {
     if later.len() <= place {

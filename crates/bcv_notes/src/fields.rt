@@ -60,7 +60,8 @@ pub(crate) fn bytes_of(len: usize, bytes: &[u8]) -> Result<(&[u8], &[u8]), Stop>
 
 /// A version's number, from 1 on.
 pub(crate) fn version_of(bytes: &[u8]) -> Result<(u64, &[u8]), Stop>
-    ensures { Yields (λ x. (x.0, x.1.now)) result (front (such (number_at w64) (nat_le 1) bytes.now)) }
+    ensures { Yields (λ x. (x.0, x.1.now)) result
+        (front (such (number_at w64) (nat_le 1) bytes.now)) }
 {
     let (number, rest) = u64_of(bytes)?;
     if number < 1 {
@@ -77,7 +78,8 @@ fn is_block_size(size: u32) -> bool
 
 /// The size of blocks in bytes.
 pub(crate) fn block_size_of(bytes: &[u8]) -> Result<(u32, &[u8]), Stop>
-    ensures { Yields (λ x. (x.0, x.1.now)) result (front (such (number_at w32) is_block_size bytes.now)) }
+    ensures { Yields (λ x. (x.0, x.1.now)) result
+        (front (such (number_at w32) is_block_size bytes.now)) }
 {
     let (block, rest) = u32_of(bytes)?;
     if !is_block_size(block) {

@@ -15,7 +15,8 @@ use std::mem::replace;
 
 // Where the first database of a name stands.
 fn first_of(locals: &[Local], db: &DbName) -> Option<usize>
-    ensures { MatchOption result ((change : Local → List Local) → replaced_local change db.now locals.now ≡ locals.now)
+    ensures { MatchOption result ((change : Local → List Local)
+        → replaced_local change db.now locals.now ≡ locals.now)
         (λ i. (i < length locals.now) × ((change : Local → List Local) (l : Local) → l ≡ get_or locals.now i l → replaced_local change db.now locals.now ≡ take i locals.now ++ (change l ++ drop (i + 1) locals.now))) }
 {
     for place in 0..locals.len() {
@@ -28,8 +29,12 @@ fn first_of(locals: &[Local], db: &DbName) -> Option<usize>
 
 // Where the database of a name stands, or where it would stand.
 fn place_of(locals: &[Local], db: &DbName) -> Result<usize, usize>
-    ensures there { IfOk result (λ i. (i < length locals.now) × ((l : Local) → kept_name l ≡ db.now → with_keyed kept_name l locals.now ≡ take i locals.now ++ l ∷ drop (i + 1) locals.now)) }
-    ensures free { IfErr result (λ i. (i ≤ length locals.now) × ((l : Local) → kept_name l ≡ db.now → with_keyed kept_name l locals.now ≡ take i locals.now ++ l ∷ drop i locals.now)) }
+    ensures there { IfOk result (λ i. (i < length locals.now)
+        × ((l : Local) → kept_name l ≡ db.now → with_keyed kept_name l locals.now
+        ≡ take i locals.now ++ l ∷ drop (i + 1) locals.now)) }
+    ensures free { IfErr result (λ i. (i ≤ length locals.now)
+        × ((l : Local) → kept_name l ≡ db.now → with_keyed kept_name l locals.now
+        ≡ take i locals.now ++ l ∷ drop i locals.now)) }
 {
     for place in 0..locals.len() {
         let order = locals[place].entry.name.cmp_bytes(db);
@@ -139,7 +144,8 @@ fn published(
     pending: Option<PendingPub>,
     number: u64,
 ) -> Result<Kept, AllocError>
-    ensures { IfOk result (λ k. k ≡ kept_published number (record { me = me; locals = locals; pending = pending }) pending) }
+    ensures { IfOk result (λ k. k ≡ kept_published number
+        (record { me = me; locals = locals; pending = pending }) pending) }
 {
     let locals = match pending {
         Some(

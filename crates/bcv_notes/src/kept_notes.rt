@@ -38,7 +38,8 @@ fn pages_size(pages: &[(u32, Seq<u8>)]) -> u64
 // The bytes of further commits of a database, as notes.
 fn committed_size(name: usize, commits: &[Commit]) -> u64
     requires { name ≤ 255 }
-    ensures { (db : List ℕ) → length db ≡ name → result ≡ min (notes_size (committed_notes db commits.now)) (2 ^ 64 - 1) }
+    ensures { (db : List ℕ) → length db ≡ name → result
+        ≡ min (notes_size (committed_notes db commits.now)) (2 ^ 64 - 1) }
 {
     let mut size = 0u64;
     let mut rest = commits;
@@ -112,7 +113,8 @@ pub fn kept_size(kept: &Kept) -> u64
 }
 
 fn push_me(alloc: Global, items: &mut Vec<Vec<u8>>, me: &Option<Id16>) -> Result<(), AllocError>
-    ensures { OnOk result (items_of items.new.items ≡ items_of items.old.items ++ map note_text (me_notes me.now)) }
+    ensures { OnOk result (items_of items.new.items
+        ≡ items_of items.old.items ++ map note_text (me_notes me.now)) }
 {
     if let Some(id) = me {
         items.push(me_note(alloc, id)?)?;
@@ -126,7 +128,8 @@ fn push_intent(
     items: &mut Vec<Vec<u8>>,
     pending: &Option<PendingPub>,
 ) -> Result<(), AllocError>
-    ensures { OnOk result (items_of items.new.items ≡ items_of items.old.items ++ map note_text (intent_notes pending.now)) }
+    ensures { OnOk result (items_of items.new.items
+        ≡ items_of items.old.items ++ map note_text (intent_notes pending.now)) }
 {
     if let Some(pending) = pending {
         items.push(intent_note(alloc, pending)?)?;
@@ -142,7 +145,8 @@ fn push_committed(
     commits: &[Commit],
 ) -> Result<(), AllocError>
     requires { notes_size (committed_notes db.now commits.now) < 2 ^ 32 }
-    ensures { OnOk result (items_of items.new.items ≡ items_of items.old.items ++ map note_text (committed_notes db.now commits.now)) }
+    ensures { OnOk result (items_of items.new.items
+        ≡ items_of items.old.items ++ map note_text (committed_notes db.now commits.now)) }
 {
     let mut rest = commits;
     while let Some((commit, after)) = rest.split_first() {
@@ -154,7 +158,8 @@ fn push_committed(
 
 fn push_local(alloc: Global, items: &mut Vec<Vec<u8>>, local: &Local) -> Result<(), AllocError>
     requires { notes_size (local_notes local.now) < 2 ^ 32 }
-    ensures { OnOk result (items_of items.new.items ≡ items_of items.old.items ++ map note_text (local_notes local.now)) }
+    ensures { OnOk result (items_of items.new.items
+        ≡ items_of items.old.items ++ map note_text (local_notes local.now)) }
 {
     match local.commits.items().split_first() {
         Some((first, after)) => {
@@ -168,7 +173,8 @@ fn push_local(alloc: Global, items: &mut Vec<Vec<u8>>, local: &Local) -> Result<
 
 fn push_locals(alloc: Global, items: &mut Vec<Vec<u8>>, locals: &[Local]) -> Result<(), AllocError>
     requires { notes_size (flat_map local_notes locals.now) < 2 ^ 32 }
-    ensures { OnOk result (items_of items.new.items ≡ items_of items.old.items ++ map note_text (flat_map local_notes locals.now)) }
+    ensures { OnOk result (items_of items.new.items
+        ≡ items_of items.old.items ++ map note_text (flat_map local_notes locals.now)) }
 {
     let mut rest = locals;
     while let Some((local, after)) = rest.split_first() {

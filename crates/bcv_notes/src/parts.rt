@@ -35,7 +35,8 @@ pub(crate) fn entry_of(alloc: Global, block: u32, bytes: &[u8]) -> Result<(DbEnt
 
 // A page's number: above the one before it, and at most the size.
 fn page_number_of(before: u32, most: u32, bytes: &[u8]) -> Result<(u32, &[u8]), Stop>
-    ensures { Yields (λ x. (x.0, x.1.now)) result (front (such (number_at w32) (λ n. nat_lt before n && nat_le n most) bytes.now)) }
+    ensures { Yields (λ x. (x.0, x.1.now)) result
+        (front (such (number_at w32) (λ n. nat_lt before n && nat_le n most) bytes.now)) }
 {
     let (number, rest) = u32_of(bytes)?;
     if number <= before || number > most {
@@ -68,7 +69,8 @@ fn pages_of(
     count: u32,
     bytes: &[u8],
 ) -> Result<(Vec<(u32, Seq<u8>)>, &[u8]), Stop>
-    ensures { Yields (λ x. (x.0.items, x.1.now)) result (pages_at page_size most count 0 bytes.now) }
+    ensures { Yields (λ x. (x.0.items, x.1.now)) result
+        (pages_at page_size most count 0 bytes.now) }
 {
     let mut pages = Vec::new(alloc);
     let mut rest = bytes;
@@ -95,7 +97,9 @@ fn blocks_needed(block: u32, page_size: u32, pages: u32) -> u64
 
 // A commit's size in pages.
 fn size_of(block: u32, page_size: u32, bytes: &[u8]) -> Result<(u32, &[u8]), Stop>
-    ensures { Yields (λ x. (x.0, x.1.now)) result (front (such (number_at w32) (λ n. nat_le (blocks_needed block page_size n) 65536) bytes.now)) }
+    ensures { Yields (λ x. (x.0, x.1.now)) result
+        (front (such (number_at w32) (λ n. nat_le (blocks_needed block page_size n) 65536)
+        bytes.now)) }
 {
     let (size, rest) = u32_of(bytes)?;
     if blocks_needed(block, page_size, size) > MOST_BLOCKS {

@@ -65,7 +65,9 @@ fn put_commit(out: &mut Vec<u8>, commit: &Commit) -> Result<(), AllocError>
 }
 
 fn put_upload(alloc: Global, out: &mut Vec<u8>, upload: &Uploading) -> Result<(), AllocError>
-    ensures { OnOk result (out.new.items ≡ out.old.items ++ (1 ∷ (to_be_bytes w64 upload.now.count ++ (to_be_bytes w32 upload.now.block ++ entry_text upload.now.entry)))) }
+    ensures { OnOk result (out.new.items ≡ out.old.items
+        ++ (1 ∷ (to_be_bytes w64 upload.now.count ++ (to_be_bytes w32 upload.now.block
+        ++ entry_text upload.now.entry)))) }
 {
     out.push(1)?;
     put_u64(out, upload.count)?;

@@ -39,7 +39,8 @@ impl PageIndex {
     pub(crate) fn reserve(&mut self, alloc: Global, pages: &[u32]) -> Result<(), AllocError>
         ensures same { (p : ℕ) → listed self.new.lists p ≡ listed self.old.lists p }
         ensures kept { (p : ℕ) → has_room self.old.lists p → has_room self.new.lists p }
-        ensures room { OnOk result ((k : ℕ) → k < length pages.now → has_room self.new.lists (slice_index pages.now k)) }
+        ensures room { OnOk result ((k : ℕ) → k < length pages.now
+            → has_room self.new.lists (slice_index pages.now k)) }
     {
         for page in pages {
             self.make_room(alloc, *page)?;
@@ -65,8 +66,10 @@ impl PageIndex {
     /// Adds a number under each of the pages, for which there is room.
     pub(crate) fn add(&mut self, pages: &[(u32, Seq<u8>)], number: u64)
         requires ascend { IsAscending pages.now }
-        requires room { (k : ℕ) → k < length pages.now → has_room self.old.lists (slice_index (map (λ w. w.0) pages.now) k) }
-        ensures { (p : ℕ) → listed self.new.lists p ≡ listed self.old.lists p ++ (if is_some (written pages.now p) then number ∷ [] else []) }
+        requires room { (k : ℕ) → k < length pages.now
+            → has_room self.old.lists (slice_index (map (λ w. w.0) pages.now) k) }
+        ensures { (p : ℕ) → listed self.new.lists p ≡ listed self.old.lists p
+            ++ (if is_some (written pages.now p) then number ∷ [] else []) }
     {
         for written in pages {
             self.add_one(written.0, number);
@@ -92,8 +95,11 @@ impl PageIndex {
     /// Drops the numbers up to `upto`, and each list that becomes empty, but for those of the pages in `ready`.
     pub(crate) fn forget(&mut self, upto: u64, ready: &[u32])
         requires { (p : ℕ) → are_rising (listed self.old.lists p) }
-        ensures listed { (p : ℕ) → listed self.new.lists p ≡ filter (nat_lt upto) (listed self.old.lists p) }
-        ensures room { (k : ℕ) → k < length ready.now → has_room self.old.lists (slice_index ready.now k) → has_room self.new.lists (slice_index ready.now k) }
+        ensures listed { (p : ℕ) → listed self.new.lists p
+            ≡ filter (nat_lt upto) (listed self.old.lists p) }
+        ensures room { (k : ℕ) → k < length ready.now
+            → has_room self.old.lists (slice_index ready.now k)
+            → has_room self.new.lists (slice_index ready.now k) }
     {
         self.lists
             .retain(|page, numbers| keep_after(*page, numbers, upto, ready));
@@ -136,8 +142,10 @@ pub(crate) fn within(numbers: &[u64], from: u64, to: u64) -> &[u64]
 // How many of the numbers are at most `upto`, where they ascend.
 fn count_upto(numbers: &[u64], upto: u64) -> usize
     ensures fits { result ≤ length numbers.now }
-    ensures front { are_rising numbers.now → take result numbers.now ≡ filter (λ n. nat_le n upto) numbers.now }
-    ensures back { are_rising numbers.now → drop result numbers.now ≡ filter (nat_lt upto) numbers.now }
+    ensures front { are_rising numbers.now → take result numbers.now
+        ≡ filter (λ n. nat_le n upto) numbers.now }
+    ensures back { are_rising numbers.now → drop result numbers.now
+        ≡ filter (nat_lt upto) numbers.now }
 {
     numbers.partition_point(|number| *number <= upto)
 }

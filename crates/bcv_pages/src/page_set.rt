@@ -48,7 +48,12 @@ impl Model for PageSet {
 impl PageSet {
     /// No commits yet, for pages of `page_size` bytes.
     pub fn new(alloc: Global, page_size: u32) -> PageSet
-        ensures { result ≡ record { page_size = page_size; forgotten = 0; kept = []; ready = None } }
+        ensures { result ≡ record {
+          page_size = page_size;
+          forgotten = 0;
+          kept = [];
+          ready = None;
+        } }
     {
         PageSet {
             page_size,
@@ -64,7 +69,8 @@ impl PageSet {
     pub fn reserve(&mut self, commit: &Commit) -> Result<(), AllocError>
         requires last { last_of self.old < 2 ^ 64 - 1 }
         requires commit { is_commit self.old.page_size (writes_of commit.now) ≡ true }
-        ensures { self.new ≡ (if is_ok result then with_room (writes_of commit.now) self.old else self.old) }
+        ensures { self.new ≡ (if is_ok result then with_room (writes_of commit.now) self.old
+            else self.old) }
     {
         let alloc = *self.commits.allocator();
         let numbers = page_numbers(alloc, commit.pages.items())?;
@@ -125,7 +131,8 @@ impl PageSet {
     pub fn size(&self, base_pages: u32, from: u64, to: u64) -> u32
         requires { CanView self.now from to }
         ensures size { result ≡ view_size base_pages (view_of self.now from to) }
-        ensures image { (base : List Page) → length base ≡ base_pages → length (view_image self.now.page_size base (view_of self.now from to)) ≡ result }
+        ensures image { (base : List Page) → length base ≡ base_pages
+            → length (view_image self.now.page_size base (view_of self.now from to)) ≡ result }
     {
         size_of(self.commits_of(from, to), base_pages)
     }
@@ -150,7 +157,8 @@ impl PageSet {
     ) -> Result<Vec<u32>, AllocError>
         requires view { CanView self.now from to }
         requires some { 1 ≤ per_block }
-        ensures { IfOk result (λ blocks. blocks.items ≡ touched_blocks per_block base_pages (view_of self.now from to)) }
+        ensures { IfOk result (λ blocks. blocks.items
+            ≡ touched_blocks per_block base_pages (view_of self.now from to)) }
     {
         let mut blocks = Vec::new(alloc);
         let mut start = 0;
@@ -220,7 +228,8 @@ impl PageSet {
         requires there { number ≤ to }
         requires view { CanView self.now (number - 1) to }
         requires last { writing number (view_of self.now (number - 1) to) page ≡ number ∷ [] }
-        ensures { (base_pages : ℕ) → shown result ≡ origin base_pages (view_of self.now (number - 1) to) page }
+        ensures { (base_pages : ℕ) → shown result ≡ origin base_pages
+            (view_of self.now (number - 1) to) page }
     {
         if self.pages_kept(page, number - 1, to) < page {
             return PageAt::Zeros;
@@ -244,7 +253,8 @@ impl PageSet {
         requires view { CanView self.now from to }
         requires some { 1 ≤ per_block }
         ensures fits { IfSome result (λ block. block < 2 ^ 32 - 1) }
-        ensures found { FindsBlock (has_local per_block base_pages (view_of self.now from to)) (div_ceil (view_size base_pages (view_of self.now from to)) per_block) start result }
+        ensures found { FindsBlock (has_local per_block base_pages (view_of self.now from to))
+            (div_ceil (view_size base_pages (view_of self.now from to)) per_block) start result }
     {
         let before = u64::from(start) * u64::from(per_block);
         let size = self.size(base_pages, from, to);

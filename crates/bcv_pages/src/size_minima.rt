@@ -89,7 +89,8 @@ fn filled(columns: &[Vec<u32>], next: Vec<u32>, size: u32) -> Vec<u32>
     requires columns { are_columns (held_columns columns.now) }
     requires empty { next.items ≡ [] }
     requires levels { length columns.now + 1 < 2 ^ vec_capacity next }
-    ensures column { IsColumn (sizes_of (held_columns columns.now) ++ size ∷ []) (length columns.now + 1) result.items }
+    ensures column { IsColumn (sizes_of (held_columns columns.now) ++ size ∷ [])
+        (length columns.now + 1) result.items }
     ensures size { slice_index result.items 0 ≡ size }
 {
     let count = columns.len() + 1;

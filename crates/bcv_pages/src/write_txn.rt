@@ -43,7 +43,10 @@ impl Model for WriteTxn {
 impl WriteTxn {
     /// No writes yet, over an image of `size` pages of `page_size` bytes.
     pub fn new(alloc: Global, page_size: u32, size: u32) -> WriteTxn
-        ensures { result ≡ record { page_size = page_size; writes = record { size = size; pages = [] } } }
+        ensures { result ≡ record {
+          page_size = page_size;
+          writes = record { size = size; pages = [] };
+        } }
     {
         WriteTxn {
             page_size,
@@ -62,8 +65,10 @@ impl WriteTxn {
 
     /// Writes the bytes of one page, over what was written under its number before. After a fault all is as before.
     pub fn write(&mut self, page: u32, bytes: &[u8]) -> Result<(), WriteFault>
-        ensures bad { (result ≡ Err WriteFault.BadPage) ↔ (may_write self.old page bytes.now ≡ false) }
-        ensures written { self.new ≡ (if is_ok result then with_page page bytes.now self.old else self.old) }
+        ensures bad { (result ≡ Err WriteFault.BadPage) ↔
+            (may_write self.old page bytes.now ≡ false) }
+        ensures written { self.new ≡ (if is_ok result then with_page page bytes.now self.old
+            else self.old) }
     {
         if page == 0 || page > self.size || bytes.len() != self.page_size as usize {
             return Err(WriteFault::BadPage);
@@ -94,7 +99,8 @@ impl WriteTxn {
 // Puts a page at its place among pages that ascend, over the one of its number.
 fn put(pages: &mut Vec<(u32, Seq<u8>)>, page: u32, bytes: &[u8]) -> Result<(), AllocError>
     requires { IsAscending pages.old.items }
-    ensures ok { OnOk result (pages.new.items ≡ below page pages.old.items ++ (page, bytes.now) ∷ above page pages.old.items) }
+    ensures ok { OnOk result (pages.new.items ≡ below page pages.old.items
+        ++ (page, bytes.now) ∷ above page pages.old.items) }
     ensures err { OnErr result (pages.new.items ≡ pages.old.items) }
 {
     let written = (page, Seq::of(Vec::from_slice(*pages.allocator(), bytes)?));

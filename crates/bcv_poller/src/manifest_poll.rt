@@ -26,7 +26,8 @@ const BLOCK_AT: u64 = 24;
 /// Gets the manifest, unless it still has the etag of the one that is kept, and compares it with what was seen of the
 /// container. This is one request to the store, whatever the answer.
 pub fn poll<S: Store>(alloc: Global, store: &mut S, seen: &Seen, etag: Option<u64>) -> Polled
-    ensures polls { ManifestPolls S.told (S.shown store.old) (S.shown store.new) seen.now etag result }
+    ensures polls { ManifestPolls S.told (S.shown store.old)
+        (S.shown store.new) seen.now etag result }
     ensures reached { S.reaches store.old store.new }
 {
     let mut bytes = Vec::new(alloc);

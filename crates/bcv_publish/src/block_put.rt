@@ -19,7 +19,8 @@ pub fn put_named<S: Store, N: Names>(
     bytes: &[u8],
     ids: &mut Vec<Id16>,
 ) -> BlockEnd
-    ensures puts { BlockPuts S.told (S.shown store.old) (S.shown store.new) (N.shown names.old) (N.shown names.new)
+    ensures puts { BlockPuts S.told (S.shown store.old) (S.shown store.new) (N.shown names.old)
+        (N.shown names.new)
         bytes.now ids.old.items result ids.new.items }
     ensures ids { AllByRecursion IsId ids.old.items → AllByRecursion IsId ids.new.items }
     ensures reached { S.reaches store.old store.new }

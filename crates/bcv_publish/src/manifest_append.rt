@@ -18,7 +18,8 @@ pub(crate) fn append_manifest<S: Store>(
     requires rules { MeetsRules manifest.now }
     requires limits { MeetsLimits manifest.now }
     requires short { IsShort manifest.now }
-    ensures appends { ManifestAppends S.told (S.shown store.old) (S.shown store.new) condition manifest.now result }
+    ensures appends { ManifestAppends S.told (S.shown store.old)
+        (S.shown store.new) condition manifest.now result }
     ensures reached { S.reaches store.old store.new }
 {
     match write_manifest(alloc, manifest) {

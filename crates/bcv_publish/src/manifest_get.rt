@@ -36,7 +36,8 @@ impl Publish {
     // Keeps a manifest where the edit may be published over it.
     fn keep(&mut self, latest: Latest, plan: &EditPlan) -> Work
         requires follows { (seen : Seen) × IsTaken self.old seen latest }
-        ensures { Keeps (checked latest.manifest plan.now self.old.writer) latest self.old result self.new }
+        ensures { Keeps (checked latest.manifest plan.now self.old.writer) latest self.old
+            result self.new }
     {
         if let Err(fault) = check(&latest.manifest, plan, &self.writer) {
             return Work::Fault(fault);

@@ -31,7 +31,8 @@ impl Publish {
         plan: &EditPlan,
         moment: u64,
     ) -> PutEnd
-        requires ready { MatchOption self.old.latest ⊥ (λ read. IsReady read.manifest plan.now self.old.writer) }
+        requires ready { MatchOption self.old.latest ⊥
+            (λ read. IsReady read.manifest plan.now self.old.writer) }
         requires few { length self.old.refused < 8 }
         ensures leaves { MatchOption self.old.latest ⊥ (λ read.
             PutLeaves plan.now moment self.old read result self.new) }
@@ -51,8 +52,10 @@ impl Publish {
 
     // The manifest that the put brings.
     fn made(&self, alloc: Global, plan: &EditPlan, moment: u64) -> Result<Manifest, AllocError>
-        requires { MatchOption self.now.latest ⊥ (λ read. IsReady read.manifest plan.now self.now.writer) }
-        ensures made { IfOk result (λ m. MatchOption self.now.latest ⊥ (λ read. IsMadeOf self.now read plan.now moment m)) }
+        requires { MatchOption self.now.latest ⊥ (λ read.
+            IsReady read.manifest plan.now self.now.writer) }
+        ensures made { IfOk result (λ m. MatchOption self.now.latest ⊥
+            (λ read. IsMadeOf self.now read plan.now moment m)) }
         ensures id { IsId self.now.id }
         ensures writer { IsId self.now.writer }
     {
@@ -67,8 +70,10 @@ impl Publish {
     // How the put of a manifest ends for the publication.
     fn end(&mut self, answer: Put, manifest: Manifest) -> PutEnd
         requires few { length self.old.refused < 8 }
-        requires next { MatchOption self.old.latest ⊥ (λ read. manifest.number ≡ read.manifest.number + 1) }
-        ensures { MatchOption self.old.latest ⊥ (λ read. Ended answer manifest self.old read result self.new) }
+        requires next { MatchOption self.old.latest ⊥
+            (λ read. manifest.number ≡ read.manifest.number + 1) }
+        ensures { MatchOption self.old.latest ⊥ (λ read.
+            Ended answer manifest self.old read result self.new) }
     {
         match answer {
             Put::Stored(etag) => {

@@ -34,7 +34,8 @@ impl Publish {
         seen: &Seen,
     ) -> Result<Latest, Unread>
         ensures taken { IfOk result (λ latest. IsTaken self.now seen.now latest) }
-        ensures reads { ManifestReads S.told (S.shown store.old) (S.shown store.new) seen.now self.now result }
+        ensures reads { ManifestReads S.told (S.shown store.old)
+            (S.shown store.new) seen.now self.now result }
         ensures reached { S.reaches store.old store.new }
     {
         let mut bytes = Vec::new(alloc);

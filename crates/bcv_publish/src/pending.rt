@@ -19,7 +19,8 @@ pub fn resolve<S: Store>(
     writer: &Id16,
     id: &Id16,
 ) -> Resolved
-    ensures resolves { Resolves S.told (S.shown store.old) (S.shown store.new) seen.now writer.now id.now result }
+    ensures resolves { Resolves S.told (S.shown store.old)
+        (S.shown store.new) seen.now writer.now id.now result }
     ensures reached { S.reaches store.old store.new }
 {
     let publication = Publish::new(*writer, *id);

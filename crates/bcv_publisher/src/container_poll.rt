@@ -58,7 +58,8 @@ fn take_poll<D: Disk>(
 ) -> Reply
     requires form { IsReadForm seen.old latest.old }
     requires within { IsPolledWithin seen.old (etag_in latest.old) answer }
-    ensures { TakesPoll ledger.old ledger.new seen.old seen.new latest.old latest.new answer result }
+    ensures { TakesPoll ledger.old ledger.new seen.old seen.new latest.old latest.new
+        answer result }
 {
     match answer {
         Polled::Same => keep_on(alloc, ledger, seen, latest),
@@ -98,7 +99,8 @@ fn keep<D: Disk>(
     read: Latest,
 ) -> Reply
     requires rules { MeetsRules read.manifest }
-    ensures { KeepsPolled ledger.old ledger.new seen.old seen.new latest.old latest.new read result }
+    ensures { KeepsPolled ledger.old ledger.new seen.old seen.new latest.old
+        latest.new read result }
 {
     if learn(alloc, ledger, seen, &read.manifest).is_err() {
         return Reply::NoMemory;

@@ -32,7 +32,8 @@ pub fn put_step<D: Disk, S: Store>(
     requires running { IsRunning task.old }
     requires ready { is_ready task.old ≡ true }
     requires waits { WaitsFor ledger.old.databases.kept.pending (pending_of taken task.old) }
-    requires upload { IfSome (upload_of taken task.old) (CanUpload ledger.old.databases.kept.locals) }
+    requires upload { IfSome (upload_of taken task.old)
+        (CanUpload ledger.old.databases.kept.locals) }
     requires is_open { is_shut ledger.old.log ≡ false }
     ensures puts { PutStep D.told D.shown S.told (S.shown store.old) (S.shown store.new)
         ledger.old ledger.new seen.now taken task.old moment result task.new }

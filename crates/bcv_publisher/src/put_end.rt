@@ -71,7 +71,8 @@ fn note_done<D: Disk>(
     requires waits { is_some ledger.old.databases.kept.pending ≡ true }
     requires is_open { is_shut ledger.old.log ≡ false }
     requires order { Ascends db_name manifest.now.dbs }
-    ensures { NotesDone D.told D.shown ledger.old ledger.new id number seen.now manifest.now result }
+    ensures { NotesDone D.told D.shown ledger.old ledger.new id number seen.now
+        manifest.now result }
 {
     if is_other(seen.block, manifest.block) {
         return ledger.resolved(alloc, id, number);

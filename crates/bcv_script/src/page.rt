@@ -54,7 +54,8 @@ pub fn last_pair(
     after: u32,
     words: &mut Words,
 ) -> Result<(u32, Vec<u8>), Stop>
-    ensures { Gives (λ x. (x.0, x.1.items)) result (last_word_at (pair_of page_size after) words.old) }
+    ensures { Gives (λ x. (x.0, x.1.items)) result
+        (last_word_at (pair_of page_size after) words.old) }
 {
     let pair = pair(alloc, page_size, after, words)?;
     words.end()?;
@@ -68,7 +69,8 @@ fn pair(
     after: u32,
     words: &mut Words,
 ) -> Result<(u32, Vec<u8>), Stop>
-    ensures value { Gives (λ x. ((x.0, x.1.items), words.new)) result (word_at (pair_of page_size after) words.old) }
+    ensures value { Gives (λ x. ((x.0, x.1.items), words.new)) result
+        (word_at (pair_of page_size after) words.old) }
     ensures fits { IfOk result (λ x. length x.1.items ≤ page_size) }
 {
     let (word, left) = words.word()?;
@@ -79,7 +81,8 @@ fn pair(
 
 // The page number above another one that stands before the first `=`, and the text after it.
 fn numbered_text(after: u32, word: &[u8]) -> Option<(u32, &[u8])>
-    ensures { MatchOption result (numbered_text after word.now ≡ None) (λ x. numbered_text after word.now ≡ Some (x.0, x.1.now)) }
+    ensures { MatchOption result (numbered_text after word.now ≡ None)
+        (λ x. numbered_text after word.now ≡ Some (x.0, x.1.now)) }
 {
     let equals = equals_in(word)?;
     let page = number_in(&word[..equals], u64::from(after) + 1, u64::from(u32::MAX))?;

@@ -32,7 +32,8 @@ pub fn world(words: &mut Words) -> Result<WorldSpec, Stop>
 
 // The word `world`.
 fn world_word(words: &mut Words) -> Result<(), Stop>
-    ensures reads { Gives (λ _. (codes "world", words.new)) result (word_at (exactly (codes "world")) words.old) }
+    ensures reads { Gives (λ _. (codes "world", words.new)) result
+        (word_at (exactly (codes "world")) words.old) }
     ensures takes_no_memory { result ≢ Err Stop.NoMemory }
 {
     let (word, left) = words.word()?;
@@ -66,7 +67,8 @@ fn block_size_of(word: &[u8]) -> Option<u32>
 
 // A page size that isn't above the block size.
 fn page_size(block: u32, words: &mut Words) -> Result<u32, Stop>
-    ensures reads { Gives (λ n. (n, words.new)) result (word_at (page_size_of_word block) words.old) }
+    ensures reads { Gives (λ n. (n, words.new)) result
+        (word_at (page_size_of_word block) words.old) }
     ensures takes_no_memory { result ≢ Err Stop.NoMemory }
 {
     let (word, left) = words.word()?;

@@ -209,7 +209,8 @@ fn add_line(line: &Line, into: &mut Vec<u8>) -> Result<(), AllocError>
 }
 
 fn add_task(task: u8, left: u32, into: &mut Vec<u8>) -> Result<(), AllocError>
-    ensures { Adds result into.old.items into.new.items (codes "task " ++ (decimal task ++ (codes " working " ++ decimal left))) }
+    ensures { Adds result into.old.items into.new.items
+        (codes "task " ++ (decimal task ++ (codes " working " ++ decimal left))) }
 {
     let parts = [
         Part::Word("task "),
@@ -221,7 +222,8 @@ fn add_task(task: u8, left: u32, into: &mut Vec<u8>) -> Result<(), AllocError>
 }
 
 fn add_cleaned(deleted: u32, more: bool, into: &mut Vec<u8>) -> Result<(), AllocError>
-    ensures { Adds result into.old.items into.new.items (codes "cleaned " ++ (decimal deleted ++ flag_text more (codes " more"))) }
+    ensures { Adds result into.old.items into.new.items
+        (codes "cleaned " ++ (decimal deleted ++ flag_text more (codes " more"))) }
 {
     let number = Part::Number(u64::from(deleted));
     if more {
@@ -317,7 +319,8 @@ fn trimmed(bytes: &[u8]) -> &[u8]
 
 #[tactic(auto, using(crate::proofs::Adding::front_kept, crate::proofs::Adding::onto_more))]
 fn add_table(word: &str, rows: &[Row], pending: bool, into: &mut Vec<u8>) -> Result<(), AllocError>
-    ensures { Adds result into.old.items into.new.items (word.now ++ (flat_map row_text rows.now ++ flag_text pending (codes " pending"))) }
+    ensures { Adds result into.old.items into.new.items
+        (word.now ++ (flat_map row_text rows.now ++ flag_text pending (codes " pending"))) }
 {
     into.extend_from_slice(word.as_bytes())?;
     add_rows(rows, into)?;
@@ -356,7 +359,8 @@ fn add_row(row: &Row, into: &mut Vec<u8>) -> Result<(), AllocError>
 
 #[tactic(auto, using(crate::proofs::Adding::front_kept, crate::proofs::Adding::onto_more))]
 fn add_numbers(numbers: &[u64], into: &mut Vec<u8>) -> Result<(), AllocError>
-    ensures { Adds result into.old.items into.new.items (codes "contended" ++ numbers_text numbers.now) }
+    ensures { Adds result into.old.items into.new.items
+        (codes "contended" ++ numbers_text numbers.now) }
 {
     into.extend_from_slice(b"contended")?;
     add_each_number(numbers, into)

@@ -52,7 +52,8 @@ pub fn find<T>(slots: &[Slot<T>], number: u64) -> Option<&T>
 pub fn take<T>(slots: &mut Vec<Slot<T>>, number: u64) -> Option<T>
     ensures found { result ≡ item_at number slots.old.items }
     ensures others { slots.new.items ≡ without_number number slots.old.items }
-    ensures only { AreDifferent (numbers_of slots.old.items) → slots.new.items ≡ other_slots number slots.old.items }
+    ensures only { AreDifferent (numbers_of slots.old.items)
+        → slots.new.items ≡ other_slots number slots.old.items }
     ensures room { IsSome result → vec_len slots.new < vec_capacity slots.new }
 {
     let Some(place) = place_of(slots, number) else {

@@ -20,7 +20,8 @@ pub fn fetch<S: Store>(
     block: u32,
 ) -> Fetched
     requires block { cache.old.block ≡ block }
-    ensures fetches { BlockFetches (slot_of id cache.old.entries) (has_room cache.old) S.told (S.shown store.old)
+    ensures fetches { BlockFetches (slot_of id cache.old.entries) (has_room cache.old) S.told
+        (S.shown store.old)
         (S.shown store.new) id cache.old result cache.new }
     ensures entry { IfIn result (λ slot. IsSlotOf slot id cache.new.entries) }
     ensures pinned_stay { KeepsPinned cache.old.entries cache.new.entries }

@@ -108,7 +108,8 @@ impl Txn {
     pub fn place(&self, pages: &PageSet, cache: &mut BlockCache, page: u32) -> Place
         requires view { CanView pages.now self.now.base.from self.now.base.to }
         requires block { cache.old.block ≡ self.now.base.block }
-        ensures places { TxnPlaces self.now (view_of pages.now self.now.base.from self.now.base.to) cache.old page result
+        ensures places { TxnPlaces self.now (view_of pages.now self.now.base.from self.now.base.to)
+            cache.old page result
             cache.new }
         ensures stay { KeepsEntries cache.old.entries cache.new.entries }
         ensures cache { IsCache cache.old → IsCache cache.new }
@@ -127,9 +128,11 @@ impl Txn {
         requires block { cache.old.block ≡ self.old.base.block }
         requires first { 1 ≤ page }
         requires last { page ≤ self.old.base.entry.pages }
-        requires entry { IsSomeAnd (block_id self.old.base page) (λ id. IsSlotOf slot id cache.old.entries) }
+        requires entry { IsSomeAnd (block_id self.old.base page)
+            (λ id. IsSlotOf slot id cache.old.entries) }
         requires pinnable { IsPinnable slot cache.old.entries }
-        ensures holds { TxnHolds (is_held self.old page) self.old cache.old page slot result self.new cache.new }
+        ensures holds { TxnHolds (is_held self.old page) self.old cache.old page slot result
+            self.new cache.new }
         ensures pins { KeepsPins self.old.held cache.old.entries self.new.held cache.new.entries }
         ensures txn { IsTxn self.new }
         ensures fixed { self.new ≡ record self.old { held = self.new.held } }
@@ -150,7 +153,8 @@ impl Txn {
         requires view { CanView pages.now self.now.base.from self.now.base.to }
         requires block { cache.now.block ≡ self.now.base.block }
         requires pins { HasPins self.now.held cache.now.entries }
-        ensures { TxnLooks self.now (view_of pages.now self.now.base.from self.now.base.to) cache.now page result }
+        ensures { TxnLooks self.now (view_of pages.now self.now.base.from self.now.base.to)
+            cache.now page result }
     {
         match self.page_at(pages, page) {
             None => Look::BadPage,

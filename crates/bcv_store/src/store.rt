@@ -79,12 +79,14 @@ pub trait Store {
         into: &mut Vec<u8>,
         most: usize,
     ) -> Got
-        ensures gets { StoreGets told (shown self.old) (shown self.new) name.now unless most into.new.items result }
+        ensures gets { StoreGets told (shown self.old)
+            (shown self.new) name.now unless most into.new.items result }
         ensures reached { reaches self.old self.new };
 
     /// Puts an object under a name where the condition holds.
     fn put(&mut self, alloc: Global, name: &ObjName, cond: Cond, bytes: &[u8]) -> Put
-        ensures puts { StorePuts told (shown self.old) (shown self.new) name.now cond bytes.now result }
+        ensures puts { StorePuts told (shown self.old)
+            (shown self.new) name.now cond bytes.now result }
         ensures reached { reaches self.old self.new };
 
     /// Deletes the object of a name, where there is one. `at` is the moment by which the caller decided, in seconds.
@@ -95,7 +97,8 @@ pub trait Store {
     /// Lists the ids of the blocks that are there, above `after`, the first 1,024 of them, left in `into`, which is empty
     /// after `Failed` and `NoMemory`.
     fn list(&mut self, alloc: Global, after: Option<&Id16>, into: &mut Vec<Id16>) -> Listed
-        ensures lists { StoreLists told (shown self.old) (shown self.new) (option_copied after.entry) into.new.items result }
+        ensures lists { StoreLists told (shown self.old) (shown self.new)
+            (option_copied after.entry) into.new.items result }
         ensures reached { reaches self.old self.new };
 
     /// Under each name the etags rise.

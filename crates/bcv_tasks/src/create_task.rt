@@ -44,7 +44,8 @@ impl CreateTask {
     // Puts the first manifest.
     pub(crate) fn put<S: Store>(&mut self, alloc: Global, store: &mut S, moment: u64) -> PutAnswer
         requires running { IsCreate self.old }
-        ensures creates { Creates S.told (S.shown store.old) (S.shown store.new) self.old moment result self.new }
+        ensures creates { Creates S.told (S.shown store.old)
+            (S.shown store.new) self.old moment result self.new }
         ensures reached { S.reaches store.old store.new }
     {
         let end = create(

@@ -22,7 +22,8 @@ impl PublishTask {
     pub fn put<S: Store>(&mut self, alloc: Global, store: &mut S, moment: u64) -> PutAnswer
         requires running { IsRunning self.old }
         requires ready { is_ready self.old ≡ true }
-        ensures puts { PutsTask S.told (S.shown store.old) (S.shown store.new) self.old moment result self.new }
+        ensures puts { PutsTask S.told (S.shown store.old)
+            (S.shown store.new) self.old moment result self.new }
         ensures complete { CompletesCleanup self.old result self.new }
         ensures reached { S.reaches store.old store.new }
         ensures left { result ≡ PutAnswer.Refused → left_of self.new ≡ 2 }
@@ -105,7 +106,8 @@ fn put_cleanup<S: Store>(
     requires ready { is_ready (task.Cleanup id cleanup.old) ≡ true }
     ensures puts { PutsTask S.told (S.shown store.old) (S.shown store.new)
         (task.Cleanup id cleanup.old) moment result (task.Cleanup id cleanup.new) }
-    ensures complete { CompletesCleanup (task.Cleanup id cleanup.old) result (task.Cleanup id cleanup.new) }
+    ensures complete { CompletesCleanup (task.Cleanup id cleanup.old) result
+        (task.Cleanup id cleanup.new) }
     ensures reached { S.reaches store.old store.new }
     ensures left { result ≡ PutAnswer.Refused → left_of (task.Cleanup id cleanup.new) ≡ 2 }
     ensures running { result ≡ PutAnswer.Refused → IsRunning (task.Cleanup id cleanup.new) }

@@ -26,7 +26,8 @@ pub(crate) fn read_page(
     requires view { CanView pages.now txn.now.base.from txn.now.base.to }
     requires block { cache.old.block ≡ txn.now.base.block }
     requires pins { HasPins txn.now.held cache.old.entries }
-    ensures reads { ReadsPage txn.now (view_of pages.now txn.now.base.from txn.now.base.to) cache.old
+    ensures reads { ReadsPage txn.now (view_of pages.now txn.now.base.from txn.now.base.to)
+        cache.old
         page result cache.new }
     ensures stay { KeepsEntries cache.old.entries cache.new.entries }
 {
@@ -44,7 +45,8 @@ pub(crate) fn hold_page(txn: &mut Txn, pages: &PageSet, cache: &mut BlockCache, 
     requires view { CanView pages.now txn.old.base.from txn.old.base.to }
     requires block { cache.old.block ≡ txn.old.base.block }
     requires few { (slot : ℕ) → pin_count slot cache.old.entries < 4294967295 }
-    ensures holds { HoldsPage txn.old (view_of pages.now txn.old.base.from txn.old.base.to) cache.old
+    ensures holds { HoldsPage txn.old (view_of pages.now txn.old.base.from txn.old.base.to)
+        cache.old
         page result txn.new cache.new }
     ensures pins { KeepsPins txn.old.held cache.old.entries txn.new.held cache.new.entries }
     ensures txn { IsTxn txn.old → IsTxn txn.new }

@@ -25,7 +25,8 @@ impl Upload {
     ) -> Work
         requires more { length self.old.ids < length self.old.touched }
         ensures leaves { BlockLeaves self.old result self.new }
-        ensures puts { PutsNext S.told (S.shown store.old) (S.shown store.new) (N.shown names.old) (N.shown names.new)
+        ensures puts { PutsNext S.told (S.shown store.old) (S.shown store.new) (N.shown names.old)
+            (N.shown names.new)
             bytes.now self.old.ids result self.new.ids }
         ensures reached { S.reaches store.old store.new }
         ensures task { IsTask self.new }

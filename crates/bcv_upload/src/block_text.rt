@@ -38,7 +38,8 @@ pub(crate) fn view_block(
     requires view { CanView pages.now base.now.from base.now.to }
     requires page_size { pages.now.page_size ≡ base.now.entry.page_size }
     requires inside { number * per_block base.now < size_in pages.now base.now }
-    requires old { has_base base.now (view_in pages.now base.now) number ≡ true → length old.now ≡ base.now.block }
+    requires old { has_base base.now (view_in pages.now base.now) number ≡ true
+        → length old.now ≡ base.now.block }
     ensures bytes { IfOk result (λ bytes.
         bytes.items ≡ view_block base.now (view_in pages.now base.now) old.now number) }
     ensures whole { IfOk result (λ bytes. length bytes.items ≡ base.now.block) }
@@ -101,7 +102,8 @@ fn push_page(
         (place + 1) * base.now.entry.page_size ≤ length old.now }
     ensures added { OnOk result (bytes.new.items
         ≡ bytes.old.items ++ page_over base.now (view_in pages.now base.now) old.now place page) }
-    ensures longer { OnOk result (vec_len bytes.new ≡ vec_len bytes.old + base.now.entry.page_size) }
+    ensures longer { OnOk result (vec_len bytes.new
+        ≡ vec_len bytes.old + base.now.entry.page_size) }
 {
     let page_size = base.entry.page_size as usize;
     match pages.find(base.entry.pages, base.from, base.to, page) {

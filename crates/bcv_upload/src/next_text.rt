@@ -37,7 +37,8 @@ pub(crate) fn next_text(
     requires inside { number * per_block base.now < size_in pages.now base.now }
     requires fetched { IfSome fetched.now (λ old. length old.items ≡ base.now.block) }
     requires block { cache.old.block ≡ base.now.block }
-    ensures next { IsNext base.now (view_in pages.now base.now) number (option_map (λ b. b.items) fetched.now)
+    ensures next { IsNext base.now (view_in pages.now base.now) number
+        (option_map (λ b. b.items) fetched.now)
         cache.old.entries result }
     ensures cache { cache.new ≡ cache_asked base.now (view_in pages.now base.now) number
         (option_map (λ b. b.items) fetched.now) cache.old }

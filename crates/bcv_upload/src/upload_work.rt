@@ -36,7 +36,8 @@ impl Upload {
             (is_fetch (view_in pages.now self.old.base) cache.old self.old) seen.now self.old result self.new }
         ensures cache { cache.new
             ≡ cache_after self.old.publish.latest (view_in pages.now self.old.base) self.old cache.old }
-        ensures works { TaskWorks S.told (S.shown store.old) (S.shown store.new) (N.shown names.old) (N.shown names.new)
+        ensures works { TaskWorks S.told (S.shown store.old) (S.shown store.new) (N.shown names.old)
+            (N.shown names.new)
             seen.now (view_in pages.now self.old.base) cache.old self.old result self.new }
         ensures reached { S.reaches store.old store.new }
         ensures running { IsRunning self.new }
@@ -56,7 +57,8 @@ impl Upload {
     fn read<S: Store>(&mut self, alloc: Global, store: &mut S, seen: &Seen) -> Work
         requires none { is_none self.old.publish.latest ≡ true }
         requires seen { seen.now.block ≡ Some self.old.base.block }
-        ensures leaves { GetLeaves seen.now (asked_plan self.old) self.old.publish result self.new.publish }
+        ensures leaves { GetLeaves seen.now (asked_plan self.old) self.old.publish result
+            self.new.publish }
         ensures rest { self.new ≡ with_publish self.old self.new.publish }
         ensures gets { ManifestGets S.told (S.shown store.old) (S.shown store.new)
             seen.now (asked_plan self.old) self.old.publish result self.new.publish }

@@ -49,7 +49,8 @@ impl Span {
 
     /// How many bytes of the range are there, where the file ends before the range does.
     pub fn short(&self) -> Option<u32>
-        ensures { SomeIff result (file_len self.now < self.now.off + self.now.len) (bytes_there self.now) }
+        ensures { SomeIff result (file_len self.now < self.now.off + self.now.len)
+            (bytes_there self.now) }
     {
         match self.bytes().checked_sub(self.off) {
             None => Some(0),
@@ -64,7 +65,8 @@ impl Span {
         ensures exact { result ≡ slice_get (pieces_of self.now) i }
         ensures found { IsSome result ↔ (i < length (pieces_of self.now)) }
         ensures within { IfSome result (IsWithin self.now) }
-        ensures lands { IfSome result (λ piece. piece.to ≡ sum_by (λ left. left.len) (take i (pieces_of self.now))) }
+        ensures lands { IfSome result (λ piece. piece.to
+            ≡ sum_by (λ left. left.len) (take i (pieces_of self.now))) }
     {
         let page_size = u64::from(self.page_size);
         let before = (self.off / page_size).saturating_add(u64::from(i));

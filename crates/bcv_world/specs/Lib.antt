@@ -1,6 +1,7 @@
 pub mod LineEvents
 pub mod Tallies
 pub mod WorldForm
+pub mod SetTroubles
 pub mod Standing
 pub mod LineLaws
 pub mod FirstPlaces

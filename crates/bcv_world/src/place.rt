@@ -7,6 +7,7 @@ ghost use Rattle.bcv_client.specs.AskCalls.{AskInForm, taken_with};
 ghost use Rattle.bcv_client.specs.InForm.{IsClient};
 ghost use Rattle.bcv_world.specs.AskedOnce.{AskedOnce};
 ghost use Rattle.bcv_world.specs.LineEvents.{ActInForm};
+ghost use Rattle.bcv_world.specs.SetTroubles.{SetsTrouble};
 ghost use Rattle.bcv_world.specs.Standing.{IsNewUp, PlaceActs};
 ghost use Rattle.bcv_world.specs.UpReplies.{down_reply, up_reply};
 ghost use Rattle.bcv_world.specs.WorldForm.{PlaceInForm, PlaceWithin, taken_in};
@@ -66,6 +67,7 @@ impl Place {
         ensures acts { PlaceActs (log_of around.old.store) (log_of around.new.store)
             around.old.names around.new.names around.old.clock.moment slots self result.0 act
             result.1 }
+        ensures sets { SetsTrouble act self result.0 }
     {
         match self {
             Place::Up(client) => act_up(alloc, around, rule, client, act),
@@ -92,6 +94,7 @@ fn act_up<F: Fn(u64, u64, u64) -> bool>(
     ensures acts { (slots : ℕ) → PlaceActs (log_of around.old.store) (log_of around.new.store)
         around.old.names around.new.names around.old.clock.moment slots (place.Up client) result.0
         act result.1 }
+    ensures sets { SetsTrouble act (place.Up client) result.0 }
 {
     match act {
         Act::Ask(ask, outcome) => ask_up(alloc, around, rule, client, ask, outcome),

@@ -6,6 +6,7 @@ ghost use Rattle.bcv_keeprule.specs.Retention.{IsKeepRule};
 ghost use Rattle.bcv_memstore.specs.Told.{log_of};
 ghost use Rattle.bcv_world.specs.FirstPlaces.{FirstPlaces};
 ghost use Rattle.bcv_world.specs.LineEvents.{IsSpec, Keeps, KeepsAct};
+ghost use Rattle.bcv_world.specs.SetTroubles.{SetsAsTold};
 ghost use Rattle.bcv_world.specs.Standing.{IsFirst, TakesEvent};
 ghost use Rattle.bcv_world.specs.Tallies.{IsTally, tallied};
 ghost use Rattle.bcv_world.specs.WorldForm.{HasPlaces, IsWorld, PlaceWithin, last_of_more};
@@ -100,6 +101,7 @@ impl World {
         ensures spec { self.new.spec ≡ self.old.spec }
         ensures tally { self.new.tally ≡ tallied self.old.tally result }
         ensures takes { TakesEvent self.old self.new event result }
+        ensures sets { SetsAsTold self.old self.new event }
     {
         match event {
             Event::Tick(seconds) => self.tick(seconds),
@@ -139,6 +141,7 @@ impl World {
         ensures spec { self.new.spec ≡ self.old.spec }
         ensures tally { self.new.tally ≡ tallied self.old.tally result }
         ensures takes { TakesEvent self.old self.new (event.Of number act) result }
+        ensures sets { SetsAsTold self.old self.new (event.Of number act) }
     {
         numbers_differ();
         let before = self.around.store.version_count();
@@ -167,7 +170,8 @@ impl World {
 
     // The number of the last version, where there were fewer before.
     fn published_since(&self, before: u64) -> Option<u64>
-        ensures { result ≡ last_of_more before (put_count object.Manifest (log_of self.now.around.store)) }
+        ensures { result ≡ last_of_more before (put_count object.Manifest
+            (log_of self.now.around.store)) }
     {
         let now = self.around.store.version_count();
         if now > before { Some(now) } else { None }
@@ -182,8 +186,10 @@ fn first_places(
 ) -> Result<Vec<Slot<Place>>, AllocError>
     requires none { names.old.count ≡ 0 }
     requires few { spec.now.clients ≤ 16 }
-    ensures places { IfOk result (λ places. HasPlaces (λ n. PlaceWithin 0) spec.now.clients places.items) }
-    ensures first { IfOk result (λ places. FirstPlaces spec.now.clients names.new spec.now.slots places.items) }
+    ensures places { IfOk result (λ places. HasPlaces
+        (λ n. PlaceWithin 0) spec.now.clients places.items) }
+    ensures first { IfOk result (λ places. FirstPlaces spec.now.clients names.new spec.now.slots
+        places.items) }
 {
     numbers_differ();
     let mut places = Vec::new(alloc);

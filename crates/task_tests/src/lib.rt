@@ -7,7 +7,11 @@
 #[cfg(test)]
 mod cleanup;
 #[cfg(test)]
+mod container;
+#[cfg(test)]
 mod poller;
+#[cfg(test)]
+mod rivals;
 #[cfg(test)]
 mod snapshot;
 #[cfg(test)]

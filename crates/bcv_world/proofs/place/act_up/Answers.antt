@@ -80,3 +80,18 @@ returns-in-FailAt-clause-acts g c =
     let log : List Entry = log_of c.args.around.now.store in
     as_given log log c.args.around.now.names c.args.around.now.names c.args.around.now.clock.moment (place.Up c.args.client) (place.Up c.fail.new.self) c.args.act _ reply.Fine c.in-FailAt.is
     (λ slots. failing_up log c.args.around.now.names c.args.around.now.clock.moment slots c.in-FailAt.calls c.args.client c.fail.new.self c.fail.ensures.only c.fail.ensures.sets)
+
+pub returns-in-Ask-clause-sets : goal.returns-in-Ask-clause-sets
+returns-in-Ask-clause-sets g c = rw c.in-Ask.is tt
+
+pub returns-in-Up-clause-sets : goal.returns-in-Up-clause-sets
+returns-in-Up-clause-sets g c = rw c.in-Up.is tt
+
+pub returns-in-Crash-clause-sets : goal.returns-in-Crash-clause-sets
+returns-in-Crash-clause-sets g c = rw c.in-Crash.is tt
+
+pub returns-in-Fuse-clause-sets : goal.returns-in-Fuse-clause-sets
+returns-in-Fuse-clause-sets g c = rw c.in-Fuse.is c.fuse.ensures.only.log.disk.trouble
+
+pub returns-in-FailAt-clause-sets : goal.returns-in-FailAt-clause-sets
+returns-in-FailAt-clause-sets g c = rw c.in-FailAt.is c.fail.ensures.only.log.disk.trouble

@@ -21,6 +21,10 @@ use Rattle.bcv_client.proofs.CallFaults.{commit_causes, quiet_disk, revert_cause
 use Rattle.bcv_client.proofs.PollForm.{read_still}
 use Rattle.bcv_client.proofs.FallsCalls.{ask_falls, noting_falls, unmoved_falls}
 use Rattle.bcv_client.proofs.SlotsKept.{begin_slots, calls_slots, end_slots, page_slots}
+use Rattle.bcv_client.specs.AnyMoment.{NotesOfCommit, NotesOfRevert}
+use Rattle.bcv_client.proofs.CallMoments.{asked_moments, local_moments, quiet_ask}
+use Rattle.bcv_client.proofs.Descent.{as_descends}
+use Rattle.bcv_client.proofs.Caching.{as_cached}
 use Rattle.bcv_client.proofs.client.Client.call.Goals as goal
 
 pub begin-requires : goal.begin-requires
@@ -638,3 +642,223 @@ returns-in-Step-clause-disk g c = c.step.ensures.disk
 
 pub returns-in-Step-clause-causes : goal.returns-in-Step-clause-causes
 returns-in-Step-clause-causes g c = c.step.ensures.causes
+
+-- ---- at any moment
+
+pub returns-in-Begin-clause-any_moment : goal.returns-in-Begin-clause-any_moment
+returns-in-Begin-clause-any_moment g c =
+    quiet_ask g.D.Disk.told g.D.Disk.shown g.met.D.Disk.only_now g.S.Store.told (g.S.Store.shown c.args.outside.now.store) (g.S.Store.shown c.args.outside.now.store) c.args.self.now c.begin.new.self c.args.ask (ask.Begin c.in-Begin.db) c.in-Begin.is refl c.begin.ensures.only.log
+
+pub returns-in-Read-clause-any_moment : goal.returns-in-Read-clause-any_moment
+returns-in-Read-clause-any_moment g c =
+    quiet_ask g.D.Disk.told g.D.Disk.shown g.met.D.Disk.only_now g.S.Store.told (g.S.Store.shown c.args.outside.now.store) (g.S.Store.shown c.args.outside.now.store) c.args.self.now c.read.new.self c.args.ask (ask.Read c.in-Read.txn c.in-Read.page) c.in-Read.is refl (ap (λ (l : Ledger g.row.D.Denot g.D.Disk). l.log) c.read.ensures.only.ledger)
+
+pub returns-in-Hold-clause-any_moment : goal.returns-in-Hold-clause-any_moment
+returns-in-Hold-clause-any_moment g c =
+    quiet_ask g.D.Disk.told g.D.Disk.shown g.met.D.Disk.only_now g.S.Store.told (g.S.Store.shown c.args.outside.now.store) (g.S.Store.shown c.args.outside.now.store) c.args.self.now c.hold.new.self c.args.ask (ask.Hold c.in-Hold.txn c.in-Hold.page) c.in-Hold.is refl (ap (λ (l : Ledger g.row.D.Denot g.D.Disk). l.log) c.hold.ensures.only.ledger)
+
+pub returns-in-Look-clause-any_moment : goal.returns-in-Look-clause-any_moment
+returns-in-Look-clause-any_moment g c =
+    quiet_ask g.D.Disk.told g.D.Disk.shown g.met.D.Disk.only_now g.S.Store.told (g.S.Store.shown c.args.outside.now.store) (g.S.Store.shown c.args.outside.now.store) c.args.self.now c.args.self.now c.args.ask (ask.Look c.in-Look.txn c.in-Look.page) c.in-Look.is refl refl
+
+pub returns-in-Free-clause-any_moment : goal.returns-in-Free-clause-any_moment
+returns-in-Free-clause-any_moment g c =
+    quiet_ask g.D.Disk.told g.D.Disk.shown g.met.D.Disk.only_now g.S.Store.told (g.S.Store.shown c.args.outside.now.store) (g.S.Store.shown c.args.outside.now.store) c.args.self.now c.free.new.self c.args.ask (ask.Free c.in-Free.txn c.in-Free.page) c.in-Free.is refl (ap (λ (l : Ledger g.row.D.Denot g.D.Disk). l.log) c.free.ensures.only.reading.ledger)
+
+pub returns-in-End-clause-any_moment : goal.returns-in-End-clause-any_moment
+returns-in-End-clause-any_moment g c =
+    quiet_ask g.D.Disk.told g.D.Disk.shown g.met.D.Disk.only_now g.S.Store.told (g.S.Store.shown c.args.outside.now.store) (g.S.Store.shown c.args.outside.now.store) c.args.self.now c.end.new.self c.args.ask (ask.End c.in-End.txn) c.in-End.is refl c.end.ensures.ledger.log
+
+pub returns-in-Commit-clause-any_moment : goal.returns-in-Commit-clause-any_moment
+returns-in-Commit-clause-any_moment g c =
+    asked_moments g.D.Disk.told g.D.Disk.shown g.met.D.Disk.only_now g.S.Store.told (g.S.Store.shown c.args.outside.now.store) (g.S.Store.shown c.args.outside.now.store) c.args.self.now c.commit.new.self c.args.ask (ask.Commit c.in-Commit.db c.in-Commit.commit) c.in-Commit.is
+    (local_moments g.D.Disk.told g.D.Disk.shown g.met.D.Disk.only_now (NotesOfCommit c.args.self.now.ledger.databases c.in-Commit.db c.in-Commit.commit) g.S.Store.told (g.S.Store.shown c.args.outside.now.store) (g.S.Store.shown c.args.outside.now.store) c.args.self.now c.commit.new.self c.commit.ensures.any_moment)
+
+pub returns-in-Revert-clause-any_moment : goal.returns-in-Revert-clause-any_moment
+returns-in-Revert-clause-any_moment g c =
+    asked_moments g.D.Disk.told g.D.Disk.shown g.met.D.Disk.only_now g.S.Store.told (g.S.Store.shown c.args.outside.now.store) (g.S.Store.shown c.args.outside.now.store) c.args.self.now c.revert.new.self c.args.ask (ask.Revert c.in-Revert.db) c.in-Revert.is
+    (local_moments g.D.Disk.told g.D.Disk.shown g.met.D.Disk.only_now (NotesOfRevert c.in-Revert.db) g.S.Store.told (g.S.Store.shown c.args.outside.now.store) (g.S.Store.shown c.args.outside.now.store) c.args.self.now c.revert.new.self c.revert.ensures.any_moment)
+
+pub returns-in-List-clause-any_moment : goal.returns-in-List-clause-any_moment
+returns-in-List-clause-any_moment g c =
+    quiet_ask g.D.Disk.told g.D.Disk.shown g.met.D.Disk.only_now g.S.Store.told (g.S.Store.shown c.args.outside.now.store) (g.S.Store.shown c.args.outside.now.store) c.args.self.now c.args.self.now c.args.ask (ask.List) c.in-List.is refl refl
+
+pub returns-in-Create-clause-any_moment : goal.returns-in-Create-clause-any_moment
+returns-in-Create-clause-any_moment g c =
+    let only = publication_only g.D.Disk.shown _ c.args.self.now c.start_create.new.self (g.N.Names.shown c.args.outside.now.names) (g.N.Names.shown c.start_create.new.names) _ _ c.start_create.result c.start_create.ensures.starts in
+    quiet_ask g.D.Disk.told g.D.Disk.shown g.met.D.Disk.only_now g.S.Store.told (g.S.Store.shown c.args.outside.now.store) (g.S.Store.shown c.args.outside.now.store) c.args.self.now c.start_create.new.self c.args.ask (ask.Create c.in-Create.block c.in-Create.retention) c.in-Create.is refl (ap (λ (l : Ledger g.row.D.Denot g.D.Disk). l.log) only.ledger)
+
+pub returns-in-NewDb-clause-any_moment : goal.returns-in-NewDb-clause-any_moment
+returns-in-NewDb-clause-any_moment g c =
+    let only = publication_only g.D.Disk.shown _ c.args.self.now c.start_copy.new.self (g.N.Names.shown c.args.outside.now.names) (g.N.Names.shown c.start_copy.new.names) _ _ c.start_copy.result c.start_copy.ensures.starts in
+    quiet_ask g.D.Disk.told g.D.Disk.shown g.met.D.Disk.only_now g.S.Store.told (g.S.Store.shown c.args.outside.now.store) (g.S.Store.shown c.args.outside.now.store) c.args.self.now c.start_copy.new.self c.args.ask (ask.NewDb c.in-NewDb.name c.in-NewDb.page_size c.in-NewDb.pages) c.in-NewDb.is refl (ap (λ (l : Ledger g.row.D.Denot g.D.Disk). l.log) only.ledger)
+
+pub returns-in-Upload-clause-any_moment : goal.returns-in-Upload-clause-any_moment
+returns-in-Upload-clause-any_moment g c =
+    let only = publication_only g.D.Disk.shown _ c.args.self.now c.start_upload.new.self (g.N.Names.shown c.args.outside.now.names) (g.N.Names.shown c.start_upload.new.names) _ _ c.start_upload.result c.start_upload.ensures.starts in
+    quiet_ask g.D.Disk.told g.D.Disk.shown g.met.D.Disk.only_now g.S.Store.told (g.S.Store.shown c.args.outside.now.store) (g.S.Store.shown c.args.outside.now.store) c.args.self.now c.start_upload.new.self c.args.ask (ask.Upload c.in-Upload.db) c.in-Upload.is refl (ap (λ (l : Ledger g.row.D.Denot g.D.Disk). l.log) only.ledger)
+
+pub returns-in-Copy-clause-any_moment : goal.returns-in-Copy-clause-any_moment
+returns-in-Copy-clause-any_moment g c =
+    let only = publication_only g.D.Disk.shown _ c.args.self.now c.start_copy-in-Copy.new.self (g.N.Names.shown c.args.outside.now.names) (g.N.Names.shown c.start_copy-in-Copy.new.names) _ _ c.start_copy-in-Copy.result c.start_copy-in-Copy.ensures.starts in
+    quiet_ask g.D.Disk.told g.D.Disk.shown g.met.D.Disk.only_now g.S.Store.told (g.S.Store.shown c.args.outside.now.store) (g.S.Store.shown c.args.outside.now.store) c.args.self.now c.start_copy-in-Copy.new.self c.args.ask (ask.Copy c.in-Copy.from c.in-Copy.to) c.in-Copy.is refl (ap (λ (l : Ledger g.row.D.Denot g.D.Disk). l.log) only.ledger)
+
+pub returns-in-Remove-clause-any_moment : goal.returns-in-Remove-clause-any_moment
+returns-in-Remove-clause-any_moment g c =
+    let only = publication_only g.D.Disk.shown _ c.args.self.now c.start_copy-in-Remove.new.self (g.N.Names.shown c.args.outside.now.names) (g.N.Names.shown c.start_copy-in-Remove.new.names) _ _ c.start_copy-in-Remove.result c.start_copy-in-Remove.ensures.starts in
+    quiet_ask g.D.Disk.told g.D.Disk.shown g.met.D.Disk.only_now g.S.Store.told (g.S.Store.shown c.args.outside.now.store) (g.S.Store.shown c.args.outside.now.store) c.args.self.now c.start_copy-in-Remove.new.self c.args.ask (ask.Remove c.in-Remove.name) c.in-Remove.is refl (ap (λ (l : Ledger g.row.D.Denot g.D.Disk). l.log) only.ledger)
+
+pub returns-in-Cleanup-clause-any_moment : goal.returns-in-Cleanup-clause-any_moment
+returns-in-Cleanup-clause-any_moment g c =
+    let only = publication_only g.D.Disk.shown _ c.args.self.now c.start_cleanup.new.self (g.N.Names.shown c.args.outside.now.names) (g.N.Names.shown c.start_cleanup.new.names) _ _ c.start_cleanup.result c.start_cleanup.ensures.starts in
+    quiet_ask g.D.Disk.told g.D.Disk.shown g.met.D.Disk.only_now g.S.Store.told (g.S.Store.shown c.args.outside.now.store) (g.S.Store.shown c.args.outside.now.store) c.args.self.now c.start_cleanup.new.self c.args.ask (ask.Cleanup) c.in-Cleanup.is refl (ap (λ (l : Ledger g.row.D.Denot g.D.Disk). l.log) only.ledger)
+
+pub returns-in-Poll-clause-any_moment : goal.returns-in-Poll-clause-any_moment
+returns-in-Poll-clause-any_moment g c =
+    quiet_ask g.D.Disk.told g.D.Disk.shown g.met.D.Disk.only_now g.S.Store.told (g.S.Store.shown c.args.outside.now.store) (g.S.Store.shown c.args.outside.now.store) c.args.self.now c.start_poll.new.self c.args.ask (ask.Poll) c.in-Poll.is refl (ap (λ (l : Ledger g.row.D.Denot g.D.Disk). l.log) c.start_poll.ensures.starts.only.ledger)
+
+pub returns-in-Resolve-clause-any_moment : goal.returns-in-Resolve-clause-any_moment
+returns-in-Resolve-clause-any_moment g c =
+    let only = unless_only c.args.self.now c.start_resolve.new.self (resolve_reason (parts_of c.args.self.now)) job.Resolve 1 c.start_resolve.result c.start_resolve.ensures.starts in
+    quiet_ask g.D.Disk.told g.D.Disk.shown g.met.D.Disk.only_now g.S.Store.told (g.S.Store.shown c.args.outside.now.store) (g.S.Store.shown c.args.outside.now.store) c.args.self.now c.start_resolve.new.self c.args.ask (ask.Resolve) c.in-Resolve.is refl (ap (λ (l : Ledger g.row.D.Denot g.D.Disk). l.log) only.ledger)
+
+pub returns-in-Step-clause-any_moment : goal.returns-in-Step-clause-any_moment
+returns-in-Step-clause-any_moment g c =
+    asked_moments g.D.Disk.told g.D.Disk.shown g.met.D.Disk.only_now g.S.Store.told (g.S.Store.shown c.args.outside.now.store) (g.S.Store.shown c.step.new.outside.store) c.args.self.now c.step.new.self c.args.ask (ask.Step c.in-Step.task) c.in-Step.is c.step.ensures.any_moment
+
+-- ---- steps to come
+
+pub returns-in-Begin-clause-descends : goal.returns-in-Begin-clause-descends
+returns-in-Begin-clause-descends g c = as_descends _ _ _ _ _ c.in-Begin.is tt
+
+pub returns-in-Read-clause-descends : goal.returns-in-Read-clause-descends
+returns-in-Read-clause-descends g c = as_descends _ _ _ _ _ c.in-Read.is tt
+
+pub returns-in-Hold-clause-descends : goal.returns-in-Hold-clause-descends
+returns-in-Hold-clause-descends g c = as_descends _ _ _ _ _ c.in-Hold.is tt
+
+pub returns-in-Look-clause-descends : goal.returns-in-Look-clause-descends
+returns-in-Look-clause-descends g c = as_descends _ _ _ _ _ c.in-Look.is tt
+
+pub returns-in-Free-clause-descends : goal.returns-in-Free-clause-descends
+returns-in-Free-clause-descends g c = as_descends _ _ _ _ _ c.in-Free.is tt
+
+pub returns-in-End-clause-descends : goal.returns-in-End-clause-descends
+returns-in-End-clause-descends g c = as_descends _ _ _ _ _ c.in-End.is tt
+
+pub returns-in-Commit-clause-descends : goal.returns-in-Commit-clause-descends
+returns-in-Commit-clause-descends g c = as_descends _ _ _ _ _ c.in-Commit.is tt
+
+pub returns-in-Revert-clause-descends : goal.returns-in-Revert-clause-descends
+returns-in-Revert-clause-descends g c = as_descends _ _ _ _ _ c.in-Revert.is tt
+
+pub returns-in-List-clause-descends : goal.returns-in-List-clause-descends
+returns-in-List-clause-descends g c = as_descends _ _ _ _ _ c.in-List.is tt
+
+pub returns-in-Create-clause-descends : goal.returns-in-Create-clause-descends
+returns-in-Create-clause-descends g c = as_descends _ _ _ _ _ c.in-Create.is tt
+
+pub returns-in-NewDb-clause-descends : goal.returns-in-NewDb-clause-descends
+returns-in-NewDb-clause-descends g c = as_descends _ _ _ _ _ c.in-NewDb.is tt
+
+pub returns-in-Upload-clause-descends : goal.returns-in-Upload-clause-descends
+returns-in-Upload-clause-descends g c = as_descends _ _ _ _ _ c.in-Upload.is tt
+
+pub returns-in-Copy-clause-descends : goal.returns-in-Copy-clause-descends
+returns-in-Copy-clause-descends g c = as_descends _ _ _ _ _ c.in-Copy.is tt
+
+pub returns-in-Remove-clause-descends : goal.returns-in-Remove-clause-descends
+returns-in-Remove-clause-descends g c = as_descends _ _ _ _ _ c.in-Remove.is tt
+
+pub returns-in-Poll-clause-descends : goal.returns-in-Poll-clause-descends
+returns-in-Poll-clause-descends g c = as_descends _ _ _ _ _ c.in-Poll.is tt
+
+pub returns-in-Cleanup-clause-descends : goal.returns-in-Cleanup-clause-descends
+returns-in-Cleanup-clause-descends g c = as_descends _ _ _ _ _ c.in-Cleanup.is tt
+
+pub returns-in-Resolve-clause-descends : goal.returns-in-Resolve-clause-descends
+returns-in-Resolve-clause-descends g c = as_descends _ _ _ _ _ c.in-Resolve.is tt
+
+pub returns-in-Step-clause-descends : goal.returns-in-Step-clause-descends
+returns-in-Step-clause-descends g c = as_descends _ _ _ _ _ c.in-Step.is c.step.ensures.descends
+
+-- ---- the cache
+
+pub returns-in-Begin-clause-caches : goal.returns-in-Begin-clause-caches
+returns-in-Begin-clause-caches g c =
+    as_cached g.S.Store.told (g.S.Store.shown c.args.outside.now.store) (g.S.Store.shown c.args.outside.now.store) c.args.ask _ c.args.self.now c.begin.new.self c.begin.result c.in-Begin.is (record { quiet = refl; does = c.begin.ensures.begins })
+
+pub returns-in-Read-clause-caches : goal.returns-in-Read-clause-caches
+returns-in-Read-clause-caches g c =
+    as_cached g.S.Store.told (g.S.Store.shown c.args.outside.now.store) (g.S.Store.shown c.args.outside.now.store) c.args.ask _ c.args.self.now c.read.new.self c.read.result c.in-Read.is (record { quiet = refl; does = c.read.ensures.asks })
+
+pub returns-in-Hold-clause-caches : goal.returns-in-Hold-clause-caches
+returns-in-Hold-clause-caches g c =
+    as_cached g.S.Store.told (g.S.Store.shown c.args.outside.now.store) (g.S.Store.shown c.args.outside.now.store) c.args.ask _ c.args.self.now c.hold.new.self c.hold.result c.in-Hold.is (record { quiet = refl; does = c.hold.ensures.asks })
+
+pub returns-in-Look-clause-caches : goal.returns-in-Look-clause-caches
+returns-in-Look-clause-caches g c =
+    as_cached g.S.Store.told (g.S.Store.shown c.args.outside.now.store) (g.S.Store.shown c.args.outside.now.store) c.args.ask _ c.args.self.now c.args.self.now c.look_copied.result c.in-Look.is (record { quiet = refl; does = refl })
+
+pub returns-in-Free-clause-caches : goal.returns-in-Free-clause-caches
+returns-in-Free-clause-caches g c =
+    as_cached g.S.Store.told (g.S.Store.shown c.args.outside.now.store) (g.S.Store.shown c.args.outside.now.store) c.args.ask _ c.args.self.now c.free.new.self c.free.result c.in-Free.is (record { quiet = refl; does = c.free.ensures.frees })
+
+pub returns-in-End-clause-caches : goal.returns-in-End-clause-caches
+returns-in-End-clause-caches g c =
+    as_cached g.S.Store.told (g.S.Store.shown c.args.outside.now.store) (g.S.Store.shown c.args.outside.now.store) c.args.ask _ c.args.self.now c.end.new.self c.end.result c.in-End.is (record { quiet = refl; does = c.end.ensures.ends })
+
+pub returns-in-Commit-clause-caches : goal.returns-in-Commit-clause-caches
+returns-in-Commit-clause-caches g c =
+    as_cached g.S.Store.told (g.S.Store.shown c.args.outside.now.store) (g.S.Store.shown c.args.outside.now.store) c.args.ask _ c.args.self.now c.commit.new.self c.commit.result c.in-Commit.is (record { quiet = refl; does = c.commit.ensures.others.txns })
+
+pub returns-in-Revert-clause-caches : goal.returns-in-Revert-clause-caches
+returns-in-Revert-clause-caches g c =
+    as_cached g.S.Store.told (g.S.Store.shown c.args.outside.now.store) (g.S.Store.shown c.args.outside.now.store) c.args.ask _ c.args.self.now c.revert.new.self c.revert.result c.in-Revert.is (record { quiet = refl; does = c.revert.ensures.others.writes.txns })
+
+pub returns-in-List-clause-caches : goal.returns-in-List-clause-caches
+returns-in-List-clause-caches g c =
+    as_cached g.S.Store.told (g.S.Store.shown c.args.outside.now.store) (g.S.Store.shown c.args.outside.now.store) c.args.ask _ c.args.self.now c.args.self.now c.list.result c.in-List.is (record { quiet = refl; does = refl })
+
+pub returns-in-Create-clause-caches : goal.returns-in-Create-clause-caches
+returns-in-Create-clause-caches g c =
+    let only = publication_only g.D.Disk.shown _ c.args.self.now c.start_create.new.self (g.N.Names.shown c.args.outside.now.names) (g.N.Names.shown c.start_create.new.names) _ _ c.start_create.result c.start_create.ensures.starts in
+    as_cached g.S.Store.told (g.S.Store.shown c.args.outside.now.store) (g.S.Store.shown c.args.outside.now.store) c.args.ask _ c.args.self.now c.start_create.new.self c.start_create.result c.in-Create.is (record { quiet = refl; does = only.txns })
+
+pub returns-in-NewDb-clause-caches : goal.returns-in-NewDb-clause-caches
+returns-in-NewDb-clause-caches g c =
+    let only = publication_only g.D.Disk.shown _ c.args.self.now c.start_copy.new.self (g.N.Names.shown c.args.outside.now.names) (g.N.Names.shown c.start_copy.new.names) _ _ c.start_copy.result c.start_copy.ensures.starts in
+    as_cached g.S.Store.told (g.S.Store.shown c.args.outside.now.store) (g.S.Store.shown c.args.outside.now.store) c.args.ask _ c.args.self.now c.start_copy.new.self c.start_copy.result c.in-NewDb.is (record { quiet = refl; does = only.txns })
+
+pub returns-in-Upload-clause-caches : goal.returns-in-Upload-clause-caches
+returns-in-Upload-clause-caches g c =
+    let only = publication_only g.D.Disk.shown _ c.args.self.now c.start_upload.new.self (g.N.Names.shown c.args.outside.now.names) (g.N.Names.shown c.start_upload.new.names) _ _ c.start_upload.result c.start_upload.ensures.starts in
+    as_cached g.S.Store.told (g.S.Store.shown c.args.outside.now.store) (g.S.Store.shown c.args.outside.now.store) c.args.ask _ c.args.self.now c.start_upload.new.self c.start_upload.result c.in-Upload.is (record { quiet = refl; does = only.txns })
+
+pub returns-in-Copy-clause-caches : goal.returns-in-Copy-clause-caches
+returns-in-Copy-clause-caches g c =
+    let only = publication_only g.D.Disk.shown _ c.args.self.now c.start_copy-in-Copy.new.self (g.N.Names.shown c.args.outside.now.names) (g.N.Names.shown c.start_copy-in-Copy.new.names) _ _ c.start_copy-in-Copy.result c.start_copy-in-Copy.ensures.starts in
+    as_cached g.S.Store.told (g.S.Store.shown c.args.outside.now.store) (g.S.Store.shown c.args.outside.now.store) c.args.ask _ c.args.self.now c.start_copy-in-Copy.new.self c.start_copy-in-Copy.result c.in-Copy.is (record { quiet = refl; does = only.txns })
+
+pub returns-in-Remove-clause-caches : goal.returns-in-Remove-clause-caches
+returns-in-Remove-clause-caches g c =
+    let only = publication_only g.D.Disk.shown _ c.args.self.now c.start_copy-in-Remove.new.self (g.N.Names.shown c.args.outside.now.names) (g.N.Names.shown c.start_copy-in-Remove.new.names) _ _ c.start_copy-in-Remove.result c.start_copy-in-Remove.ensures.starts in
+    as_cached g.S.Store.told (g.S.Store.shown c.args.outside.now.store) (g.S.Store.shown c.args.outside.now.store) c.args.ask _ c.args.self.now c.start_copy-in-Remove.new.self c.start_copy-in-Remove.result c.in-Remove.is (record { quiet = refl; does = only.txns })
+
+pub returns-in-Poll-clause-caches : goal.returns-in-Poll-clause-caches
+returns-in-Poll-clause-caches g c =
+    as_cached g.S.Store.told (g.S.Store.shown c.args.outside.now.store) (g.S.Store.shown c.args.outside.now.store) c.args.ask _ c.args.self.now c.start_poll.new.self c.start_poll.result c.in-Poll.is (record { quiet = refl; does = c.start_poll.ensures.starts.only.txns })
+
+pub returns-in-Cleanup-clause-caches : goal.returns-in-Cleanup-clause-caches
+returns-in-Cleanup-clause-caches g c =
+    let only = publication_only g.D.Disk.shown _ c.args.self.now c.start_cleanup.new.self (g.N.Names.shown c.args.outside.now.names) (g.N.Names.shown c.start_cleanup.new.names) _ _ c.start_cleanup.result c.start_cleanup.ensures.starts in
+    as_cached g.S.Store.told (g.S.Store.shown c.args.outside.now.store) (g.S.Store.shown c.args.outside.now.store) c.args.ask _ c.args.self.now c.start_cleanup.new.self c.start_cleanup.result c.in-Cleanup.is (record { quiet = refl; does = only.txns })
+
+pub returns-in-Resolve-clause-caches : goal.returns-in-Resolve-clause-caches
+returns-in-Resolve-clause-caches g c =
+    let only = unless_only c.args.self.now c.start_resolve.new.self (resolve_reason (parts_of c.args.self.now)) job.Resolve 1 c.start_resolve.result c.start_resolve.ensures.starts in
+    as_cached g.S.Store.told (g.S.Store.shown c.args.outside.now.store) (g.S.Store.shown c.args.outside.now.store) c.args.ask _ c.args.self.now c.start_resolve.new.self c.start_resolve.result c.in-Resolve.is (record { quiet = refl; does = only.txns })
+
+pub returns-in-Step-clause-caches : goal.returns-in-Step-clause-caches
+returns-in-Step-clause-caches g c =
+    as_cached g.S.Store.told (g.S.Store.shown c.args.outside.now.store) (g.S.Store.shown c.step.new.outside.store) c.args.ask _ c.args.self.now c.step.new.self c.step.result c.in-Step.is (record { quiet = tt; does = c.step.ensures.caches })

@@ -10,6 +10,10 @@ use Rattle.bcv_client.proofs.CallFaults.{disk_then}
 use Rattle.bcv_client.proofs.PollForm.{read_still}
 use Rattle.bcv_client.proofs.PublicationGoesOn.{back_where, in_form_on, publishes, single_still, stays_where}
 use Rattle.bcv_client.proofs.FallsCalls.{back_falls}
+use Rattle.bcv_client.proofs.CallMoments.{back_moments}
+use Rattle.bcv_client.proofs.Descent.{back_descends, quiet_publication}
+use Rattle.bcv_client.specs.Caching.{PublishCaches}
+use Rattle.bcv_client.specs.PublicationOver.{view_at}
 use Rattle.bcv_client.proofs.client.Client.publication.Goals as goal
 
 pub publish_once-reply-requires-clause-form : goal.publish_once-reply-requires-clause-form
@@ -108,3 +112,28 @@ returns-clause-disk g c =
 
 pub returns-clause-causes : goal.returns-clause-causes
 returns-clause-causes g c = c.publish_once-reply.ensures.causes
+
+pub returns-then-not-is_working-clause-any_moment : goal.returns-then-not-is_working-clause-any_moment
+returns-then-not-is_working-clause-any_moment g c = c.publish_once-reply.ensures.any_moment c.args.number
+
+pub returns-clause-any_moment : goal.returns-clause-any_moment
+returns-clause-any_moment g c =
+    back_moments g.D.Disk.told g.D.Disk.shown g.met.D.Disk.only_now g.S.Store.told (g.S.Store.shown c.args.outside.now.store) (g.S.Store.shown c.publish_once-reply.new.outside.store) c.args.self.now c.publish_once-reply.new.self c.give_back.new.self
+    c.args.number c.args.set c.args.taken c.args.task c.give_back.ensures.back.only.ledger (c.publish_once-reply.ensures.any_moment c.args.number)
+
+pub returns-then-not-is_working-clause-descends : goal.returns-then-not-is_working-clause-descends
+returns-then-not-is_working-clause-descends g c =
+    quiet_publication c.publish_once-reply.new.self c.args.number c.args.set c.args.taken c.args.task c.publish_once-reply.result (sym c.is_working.ensures ∙ c.if-not-is_working.true)
+
+pub returns-clause-descends : goal.returns-clause-descends
+returns-clause-descends g c =
+    back_descends c.publish_once-reply.new.self c.give_back.new.self c.args.number c.args.set c.args.taken c.args.task c.publish_once-reply.new.task c.publish_once-reply.result
+    (subst (λ (ts : Vec (Slot Job)). CanGiveBack c.args.number ts.items) (sym c.publish_once-reply.ensures.only.tasks) c.requires.place) c.give_back.ensures.back c.publish_once-reply.ensures.descends
+
+pub returns-then-not-is_working-clause-caches : goal.returns-then-not-is_working-clause-caches
+returns-then-not-is_working-clause-caches g c = c.publish_once-reply.ensures.caches
+
+pub returns-clause-caches : goal.returns-clause-caches
+returns-clause-caches g c =
+    subst (λ (o : Open). PublishCaches (view_at c.args.self.now.ledger.databases c.args.set c.args.task) c.args.task c.args.self.now.txns o)
+    (sym c.give_back.ensures.back.only.txns) c.publish_once-reply.ensures.caches

@@ -1,5 +1,8 @@
-use Rattle.std.proofs.Common.{◌∙◌, sym}
+use Rattle.std.proofs.Common.{◌∙◌, refl, sym}
 use Rattle.bcv_client.proofs.FallsCalls.{put_falls_as}
+use Rattle.bcv_client.proofs.CallMoments.{put_moments, work_moments}
+use Rattle.bcv_client.proofs.Descent.{put_descends, work_descends}
+use Rattle.bcv_client.proofs.Caching.{put_caches, work_caches}
 use Rattle.bcv_client.proofs.client.Client.publish_once.Goals as goal
 
 pub put_task-requires-clause-form : goal.put_task-requires-clause-form
@@ -78,3 +81,36 @@ returns-clause-disk g c = c.work_task.ensures.disk
 
 pub returns-clause-causes : goal.returns-clause-causes
 returns-clause-causes g c = c.work_task.ensures.causes
+
+pub returns-then-ready-clause-any_moment : goal.returns-then-ready-clause-any_moment
+returns-then-ready-clause-any_moment g c = λ n.
+    put_moments g.D.Disk.told g.D.Disk.shown g.met.D.Disk.only_now g.S.Store.told (g.S.Store.shown c.args.outside.now.store) (g.S.Store.shown c.put_task.new.store) c.args.self.now c.put_task.new.self (c.requires.can.is_open refl) c.args.set c.args.taken c.args.task.now c.requires.can.form n c.put_task.ensures.notes
+
+pub returns-clause-any_moment : goal.returns-clause-any_moment
+returns-clause-any_moment g c = λ n.
+    work_moments g.D.Disk.told g.D.Disk.shown g.met.D.Disk.only_now g.S.Store.told (g.S.Store.shown c.args.outside.now.store) (g.S.Store.shown c.work_task.new.outside.store) c.args.self.now c.work_task.new.self (c.requires.can.is_open refl) c.args.set c.args.taken c.args.task.now c.requires.can.form n (goal.F-post g c.args.rule.now.rule)
+    (g.N.Names.shown c.args.outside.now.names) (g.N.Names.shown c.work_task.new.outside.names) (g.C.Clock.shown c.args.outside.now.clock) (g.C.Clock.shown c.work_task.new.outside.clock)
+    c.work_task.result c.work_task.new.task c.work_task.ensures.works
+
+pub returns-then-ready-clause-descends : goal.returns-then-ready-clause-descends
+returns-then-ready-clause-descends g c =
+    put_descends g.D.Disk.told g.D.Disk.shown g.S.Store.told (g.S.Store.shown c.args.outside.now.store) (g.S.Store.shown c.put_task.new.store) (g.C.Clock.shown c.args.outside.now.clock)
+    (g.C.Clock.shown c.put_task.new.clock) c.args.self.now c.put_task.new.self c.args.set c.args.taken c.args.task.now c.put_task.new.task c.put_task.result c.requires.can.form.running
+    (sym c.ready.ensures ∙ c.if-ready.true) c.put_task.ensures.puts
+
+pub returns-clause-descends : goal.returns-clause-descends
+returns-clause-descends g c =
+    work_descends g.D.Disk.told g.D.Disk.shown g.S.Store.told (g.S.Store.shown c.args.outside.now.store) (g.S.Store.shown c.work_task.new.outside.store) (g.C.Clock.shown c.args.outside.now.clock)
+    (g.C.Clock.shown c.work_task.new.outside.clock) c.args.self.now c.work_task.new.self _ (g.N.Names.shown c.args.outside.now.names) (g.N.Names.shown c.work_task.new.outside.names) c.args.set
+    c.args.task.now c.work_task.new.task c.work_task.result c.requires.can.form.running (sym c.ready.ensures ∙ c.if-ready.false) c.work_task.ensures.works
+
+pub returns-then-ready-clause-caches : goal.returns-then-ready-clause-caches
+returns-then-ready-clause-caches g c =
+    put_caches g.D.Disk.told g.D.Disk.shown g.S.Store.told (g.S.Store.shown c.args.outside.now.store) (g.S.Store.shown c.put_task.new.store) (g.C.Clock.shown c.args.outside.now.clock)
+    (g.C.Clock.shown c.put_task.new.clock) c.args.self.now c.put_task.new.self c.args.set c.args.taken c.args.task.now c.put_task.new.task c.put_task.result c.put_task.ensures.puts
+
+pub returns-clause-caches : goal.returns-clause-caches
+returns-clause-caches g c =
+    work_caches g.D.Disk.told g.D.Disk.shown g.S.Store.told (g.S.Store.shown c.args.outside.now.store) (g.S.Store.shown c.work_task.new.outside.store) (g.C.Clock.shown c.args.outside.now.clock)
+    (g.C.Clock.shown c.work_task.new.outside.clock) c.args.self.now c.work_task.new.self _ (g.N.Names.shown c.args.outside.now.names) (g.N.Names.shown c.work_task.new.outside.names) c.args.set
+    c.args.task.now c.work_task.new.task c.work_task.result c.work_task.ensures.works

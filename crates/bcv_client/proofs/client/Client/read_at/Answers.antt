@@ -1,5 +1,4 @@
-use Rattle.std.proofs.Common.{◌≡◌, ◌∙◌, None, Option, Some, option_map, sym, ℕ}
-use Rattle.bcv_vfs.specs.declared.Span.{Span}
+use Rattle.std.proofs.Common.{◌≡◌, ◌∙◌, Some, option_map, sym, ℕ}
 use Rattle.bcv_client.specs.RangeReads.{span_of}
 use Rattle.bcv_client.specs.Transactions.{opened_as}
 use Rattle.bcv_client.proofs.RangeJoins.{range_ends, range_none}

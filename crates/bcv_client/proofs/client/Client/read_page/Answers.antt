@@ -1,8 +1,7 @@
-use Rattle.std.proofs.Common.{subst, sym}
+use Rattle.std.proofs.Common.{subst}
 use Rattle.bcv_machine.specs.Reading.{Fetches}
 use Rattle.bcv_machine.specs.State as m
 use Rattle.bcv_model.specs.declared.reply.Reply.{Reply}
-use Rattle.bcv_model.specs.declared.reply.Reply.TheVariants as reply
 use Rattle.bcv_client.specs.Events.{Locally}
 use Rattle.bcv_client.specs.Transactions.{AsksPage}
 use Rattle.bcv_client.specs.declared.job.Access.TheVariants as access

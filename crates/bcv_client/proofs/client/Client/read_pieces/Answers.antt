@@ -1,5 +1,4 @@
-use Rattle.std.proofs.Common.{◌≡◌, ◌∙◌, ◌≤◌, None, Option, Some, Result, Err, Ok, length, slice_get, sym, arith}
-use Rattle.bcv_vfs.specs.declared.Piece.{Piece}
+use Rattle.std.proofs.Common.{◌≡◌, ◌∙◌, ◌≤◌, Some, length, slice_get, sym, arith}
 use Rattle.bcv_vfs.specs.Pieces.{pieces_of}
 use Rattle.bcv_client.proofs.RangeJoins.{none_at, pieces_all, pieces_more, pieces_none, pieces_refused}
 use Rattle.bcv_client.proofs.client.Client.read_pieces.Goals as goal

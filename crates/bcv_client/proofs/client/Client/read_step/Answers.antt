@@ -1,5 +1,3 @@
-use Rattle.std.proofs.Common.{Err, Ok}
-use Rattle.bcv_client.specs.declared.job.Job.TheVariants as job
 use Rattle.bcv_client.proofs.PollForm.{read_still}
 use Rattle.bcv_client.proofs.RangeSteps.{always_taken, step_reads, taken_read}
 use Rattle.bcv_client.proofs.client.Client.read_step.Goals as goal

@@ -5,6 +5,7 @@ use Rattle.bcv_client.proofs.CallFaults.{revert_disk}
 use Rattle.bcv_client.proofs.Reverts.{ends, revert_is_noted, same_ledger}
 use Rattle.bcv_client.proofs.NeededKept.{trims_as}
 use Rattle.bcv_client.proofs.FallsLocal.{revert_falls}
+use Rattle.bcv_client.proofs.CallMoments.{revert_moments}
 use Rattle.bcv_client.proofs.client.Client.revert.Goals as goal
 
 pub returns-clause-form : goal.returns-clause-form
@@ -54,3 +55,11 @@ returns-clause-falls g c =
 pub returns-clause-disk : goal.returns-clause-disk
 returns-clause-disk g c =
     revert_disk g.D.Disk.told g.D.Disk.shown c.args.self.now (record c.args.self.now { ledger = c.trim_where.new.ledger }) c.args.db c.revert-reply.result (returns-clause-reverts g c)
+
+pub returns-clause-any_moment : goal.returns-clause-any_moment
+returns-clause-any_moment g c =
+    let s = c.args.self.now in
+    let d = g.D.Disk in
+    revert_moments d.told d.shown g.met.D.Disk.only_now s (record s { ledger = c.trim_where.new.ledger }) c.args.db (record { id = refl; seen = refl; latest = refl; txns = refl; tasks = refl }) c.revert-reply.new.self
+    (same_ledger c.revert-reply.new.self c.trim_where.new.ledger s.txns c.trim_where.ensures.views) c.revert-reply.result
+    (subst (λ (b : Bool). LedgerReverts d.told d.shown s.ledger c.revert-reply.new.self b c.args.db c.revert-reply.result) c.runs_publication-busy.ensures c.revert-reply.ensures.reverts)

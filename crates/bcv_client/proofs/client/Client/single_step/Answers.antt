@@ -7,6 +7,10 @@ use Rattle.bcv_client.specs.declared.job.Job.TheVariants as job
 use Rattle.bcv_client.proofs.CallFaults.{fetch_causes, fetch_disk, poll_causes, poll_disk, resolve_causes, resolve_disk}
 use Rattle.bcv_client.proofs.PollForm.{read_still}
 use Rattle.bcv_client.proofs.SlotsKept.{steps_slots}
+use Rattle.bcv_ledger.specs.declared.ledger.Ledger.{Ledger}
+use Rattle.bcv_client.proofs.CallMoments.{resolve_moments, unmoved_step}
+use Rattle.bcv_client.proofs.Descent.{fetch_ends, poll_ends, resolve_ends}
+use Rattle.bcv_client.proofs.Caching.{fetch_caches, job_as}
 use Rattle.bcv_client.proofs.client.Client.single_step.Goals as goal
 
 pub fetch-requires-clause-form : goal.fetch-requires-clause-form
@@ -122,3 +126,40 @@ returns-in-Resolve-clause-disk g c =
 pub returns-in-Resolve-clause-causes : goal.returns-in-Resolve-clause-causes
 returns-in-Resolve-clause-causes g c = λ names clock.
     resolve_causes g.D.Disk.told g.D.Disk.shown g.S.Store.told (g.S.Store.shown c.args.store.now) (g.S.Store.shown c.resolve.new.store) names clock c.args.self.now c.resolve.new.self c.resolve.result c.resolve.ensures.resolves
+
+pub returns-in-Fetch-clause-any_moment : goal.returns-in-Fetch-clause-any_moment
+returns-in-Fetch-clause-any_moment g c =
+    unmoved_step g.D.Disk.told g.D.Disk.shown g.met.D.Disk.only_now g.S.Store.told (g.S.Store.shown c.args.store.now) (g.S.Store.shown c.fetch.new.store) c.args.self.now c.fetch.new.self (ap (λ (l : Ledger g.row.D.Denot g.D.Disk). l.log) c.fetch.ensures.fetches.fetches.only.reading.ledger)
+
+pub returns-in-Poll-clause-any_moment : goal.returns-in-Poll-clause-any_moment
+returns-in-Poll-clause-any_moment g c = unmoved_step g.D.Disk.told g.D.Disk.shown g.met.D.Disk.only_now g.S.Store.told (g.S.Store.shown c.args.store.now) (g.S.Store.shown c.poll.new.store) c.args.self.now c.poll.new.self c.poll.ensures.polls.log
+
+pub returns-in-Resolve-clause-any_moment : goal.returns-in-Resolve-clause-any_moment
+returns-in-Resolve-clause-any_moment g c =
+    let can : CanStep c.args.self.now job.Resolve = rw c.in-Resolve.is at c.requires.can in
+    resolve_moments g.D.Disk.told g.D.Disk.shown g.met.D.Disk.only_now g.S.Store.told (g.S.Store.shown c.args.store.now) (g.S.Store.shown c.resolve.new.store) c.args.self.now c.resolve.new.self (can.is_open refl) c.resolve.result c.resolve.ensures.resolves (can.alone refl)
+
+pub returns-in-Fetch-clause-descends : goal.returns-in-Fetch-clause-descends
+returns-in-Fetch-clause-descends g c = fetch_ends c.fetch.result c.fetch.ensures.fetches.how c.fetch.ensures.fetches.answers
+
+pub returns-in-Poll-clause-descends : goal.returns-in-Poll-clause-descends
+returns-in-Poll-clause-descends g c = poll_ends _ _ _ _ _ _ _ c.poll.result c.poll.ensures.polls.leaves
+
+pub returns-in-Resolve-clause-descends : goal.returns-in-Resolve-clause-descends
+returns-in-Resolve-clause-descends g c =
+    resolve_ends g.D.Disk.told g.D.Disk.shown g.S.Store.told (g.S.Store.shown c.args.store.now) (g.S.Store.shown c.resolve.new.store) c.args.self.now c.resolve.new.self c.resolve.result c.resolve.ensures.resolves
+
+pub returns-in-Fetch-clause-caches : goal.returns-in-Fetch-clause-caches
+returns-in-Fetch-clause-caches g c =
+    job_as g.S.Store.told (g.S.Store.shown c.args.store.now) (g.S.Store.shown c.fetch.new.store) c.args.self.now.ledger.databases c.args.self.now.txns c.fetch.new.self.txns _ _ c.fetch.result c.in-Fetch.is
+    (fetch_caches g.S.Store.told (g.S.Store.shown c.args.store.now) (g.S.Store.shown c.fetch.new.store) c.args.self.now c.fetch.new.self _ _ _ c.fetch.result c.fetch.ensures.fetches)
+
+pub returns-in-Poll-clause-caches : goal.returns-in-Poll-clause-caches
+returns-in-Poll-clause-caches g c =
+    job_as g.S.Store.told (g.S.Store.shown c.args.store.now) (g.S.Store.shown c.poll.new.store) c.args.self.now.ledger.databases c.args.self.now.txns c.poll.new.self.txns _ _ c.poll.result c.in-Poll.is
+    c.poll.ensures.only.txns
+
+pub returns-in-Resolve-clause-caches : goal.returns-in-Resolve-clause-caches
+returns-in-Resolve-clause-caches g c =
+    job_as g.S.Store.told (g.S.Store.shown c.args.store.now) (g.S.Store.shown c.resolve.new.store) c.args.self.now.ledger.databases c.args.self.now.txns c.resolve.new.self.txns _ _ c.resolve.result c.in-Resolve.is
+    c.resolve.ensures.only.writes.txns

@@ -1,4 +1,4 @@
-use Rattle.std.proofs.Common.{Option, ap, option_map, sym, ◌∙◌, ℕ}
+use Rattle.std.proofs.Common.{ap, option_map, sym, ◌∙◌, ℕ}
 use Rattle.bcv_client.specs.RangeReads.{span_of}
 use Rattle.bcv_client.proofs.RangeSteps.{opened_sized}
 use Rattle.bcv_client.proofs.client.Client.span_of.Goals as goal

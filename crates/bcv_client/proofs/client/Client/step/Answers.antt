@@ -9,6 +9,9 @@ use Rattle.bcv_client.proofs.CallFaults.{disk_from, quiet_disk, taken_inside}
 use Rattle.bcv_client.proofs.NumberSteps.{open_still, others_single, place_left, publication_steps, quiet_steps, single_steps, taken_names, taken_only}
 use Rattle.bcv_client.proofs.PollForm.{read_still}
 use Rattle.bcv_client.proofs.FallsCalls.{publication_falls, single_falls, unmoved_falls}
+use Rattle.bcv_client.proofs.CallMoments.{publication_moments, single_moments, unmoved_step}
+use Rattle.bcv_client.proofs.Descent.{publication_descends, quiet_step, refused_descends}
+use Rattle.bcv_client.proofs.Caching.{refused_caches, step_caches}
 use Rattle.bcv_client.proofs.client.Client.step.Goals as goal
 
 pub take_task-requires : goal.take_task-requires
@@ -110,6 +113,13 @@ returns-in_default g c =
       falls =
           single_falls g.D.Disk.told g.D.Disk.shown g.S.Store.told (g.S.Store.shown c.args.outside.now.store) (g.S.Store.shown c.single_step.new.store) c.args.self.now c.take_task.new.self c.single_step.new.self
           c.args.number (g.N.Names.shown c.args.outside.now.names) c.in-Ok.job takes.0 c.single_step.ensures.falls;
+      any_moment =
+          single_moments g.D.Disk.told g.D.Disk.shown g.met.D.Disk.only_now g.S.Store.told (g.S.Store.shown c.args.outside.now.store) (g.S.Store.shown c.single_step.new.store) c.args.self.now c.take_task.new.self c.single_step.new.self
+          c.args.number c.in-Ok.job takes.0 c.single_step.ensures.any_moment;
+      descends = quiet_step c.args.self.now c.single_step.new.self c.args.number c.single_step.result c.single_step.ensures.descends;
+      caches =
+          step_caches g.S.Store.told (g.S.Store.shown c.args.outside.now.store) (g.S.Store.shown c.single_step.new.store) c.args.self.now c.take_task.new.self c.single_step.new.self.txns
+          c.args.number c.in-Ok.job c.single_step.result takes.0 c.single_step.ensures.caches;
     }
 
 pub returns-in-Err-clause-falls : goal.returns-in-Err-clause-falls
@@ -147,3 +157,50 @@ returns-in-Publish-clause-disk g c =
 
 pub returns-in-Publish-clause-causes : goal.returns-in-Publish-clause-causes
 returns-in-Publish-clause-causes g c = c.publication.ensures.causes
+
+-- ---- at any moment
+
+pub returns-in-Err-clause-any_moment : goal.returns-in-Err-clause-any_moment
+returns-in-Err-clause-any_moment g c =
+    let only = taken_only c.args.self.now c.take_task.new.self c.args.number c.take_task.result c.take_task.ensures.takes in
+    unmoved_step g.D.Disk.told g.D.Disk.shown g.met.D.Disk.only_now g.S.Store.told (g.S.Store.shown c.args.outside.now.store) (g.S.Store.shown c.args.outside.now.store) c.args.self.now c.take_task.new.self
+    (ap (λ (l : Ledger g.row.D.Denot g.D.Disk). l.log) only.ledger)
+
+pub returns-in-Publish-clause-any_moment : goal.returns-in-Publish-clause-any_moment
+returns-in-Publish-clause-any_moment g c =
+    let j : Job = job.Publish c.in-Publish.set c.in-Publish.taken c.in-Publish.task in
+    let found : TaskOut c.args.self.now c.take_task.new.self c.args.number c.in-Ok.job × CanStep c.take_task.new.self c.in-Ok.job = rw c.in-Ok.is at c.take_task.ensures.takes in
+    let takes : TaskOut c.args.self.now c.take_task.new.self c.args.number j × CanStep c.take_task.new.self j =
+    subst (λ (x : Job). TaskOut c.args.self.now c.take_task.new.self c.args.number x × CanStep c.take_task.new.self x) c.in-Publish.is found in
+    publication_moments g.D.Disk.told g.D.Disk.shown g.met.D.Disk.only_now g.S.Store.told (g.S.Store.shown c.args.outside.now.store) (g.S.Store.shown c.publication.new.outside.store) c.args.self.now c.take_task.new.self c.publication.new.self
+    c.args.number c.in-Publish.set c.in-Publish.taken c.in-Publish.task takes.0 c.publication.ensures.any_moment
+
+-- ---- steps to come
+
+pub returns-in-Err-clause-descends : goal.returns-in-Err-clause-descends
+returns-in-Err-clause-descends g c = refused_descends c.args.self.now c.take_task.new.self c.args.number c.in-Err.reply (rw c.in-Err.is at c.take_task.ensures.takes)
+
+pub returns-in-Publish-clause-descends : goal.returns-in-Publish-clause-descends
+returns-in-Publish-clause-descends g c =
+    let j : Job = job.Publish c.in-Publish.set c.in-Publish.taken c.in-Publish.task in
+    let found : TaskOut c.args.self.now c.take_task.new.self c.args.number c.in-Ok.job × CanStep c.take_task.new.self c.in-Ok.job = rw c.in-Ok.is at c.take_task.ensures.takes in
+    let takes : TaskOut c.args.self.now c.take_task.new.self c.args.number j × CanStep c.take_task.new.self j =
+    subst (λ (x : Job). TaskOut c.args.self.now c.take_task.new.self c.args.number x × CanStep c.take_task.new.self x) c.in-Publish.is found in
+    publication_descends c.args.self.now c.take_task.new.self c.publication.new.self c.args.number c.in-Publish.set c.in-Publish.taken c.in-Publish.task c.publication.result takes.0
+    c.publication.ensures.descends
+
+-- ---- the cache
+
+pub returns-in-Err-clause-caches : goal.returns-in-Err-clause-caches
+returns-in-Err-clause-caches g c =
+    let only = taken_only c.args.self.now c.take_task.new.self c.args.number c.take_task.result c.take_task.ensures.takes in
+    refused_caches g.S.Store.told (g.S.Store.shown c.args.outside.now.store) c.args.self.now c.take_task.new.self c.args.number c.in-Err.reply (rw c.in-Err.is at c.take_task.ensures.takes) only.txns
+
+pub returns-in-Publish-clause-caches : goal.returns-in-Publish-clause-caches
+returns-in-Publish-clause-caches g c =
+    let j : Job = job.Publish c.in-Publish.set c.in-Publish.taken c.in-Publish.task in
+    let found : TaskOut c.args.self.now c.take_task.new.self c.args.number c.in-Ok.job × CanStep c.take_task.new.self c.in-Ok.job = rw c.in-Ok.is at c.take_task.ensures.takes in
+    let takes : TaskOut c.args.self.now c.take_task.new.self c.args.number j × CanStep c.take_task.new.self j =
+    subst (λ (x : Job). TaskOut c.args.self.now c.take_task.new.self c.args.number x × CanStep c.take_task.new.self x) c.in-Publish.is found in
+    step_caches g.S.Store.told (g.S.Store.shown c.args.outside.now.store) (g.S.Store.shown c.publication.new.outside.store) c.args.self.now c.take_task.new.self c.publication.new.self.txns
+    c.args.number j c.publication.result takes.0 c.publication.ensures.caches

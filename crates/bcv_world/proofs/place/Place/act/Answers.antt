@@ -1,9 +1,12 @@
 use Rattle.std.proofs.Common.{◌≡◌, ◌+◌, arith, refl, subst, sym}
+use Rattle.bcv_disk.specs.declared.memory.MemDisk.{MemDisk}
 use Rattle.bcv_memstore.specs.Told.{log_of}
 use Rattle.bcv_model.specs.declared.event.Act.{Act}
 use Rattle.bcv_model.specs.declared.event.Act.TheVariants as act
 use Rattle.bcv_world.specs.declared.place.Place.{Place}
+use Rattle.bcv_world.specs.declared.place.Place.TheVariants as place
 use Rattle.bcv_world.specs.LineEvents.{ActInForm}
+use Rattle.bcv_world.specs.SetTroubles.{SetsTrouble}
 use Rattle.bcv_world.specs.Standing.{PlaceActs}
 use Rattle.bcv_world.specs.WorldForm.{PlaceWithin, taken_in}
 use Rattle.bcv_world.proofs.QuietPlaces.{IsRefusedDown, refused_down}
@@ -50,3 +53,17 @@ returns-after-act-clause-acts g c =
           (rw (w.result-is, w.around-is, c.in-Down.is)
           (refused_down (log_of c.args.around.now.store) c.args.around.now.names c.args.around.now.clock.moment c.args.slots c.in-Down.disk c.args.act (not_up c.args.act w.in_default.not-Up)))
     ]
+
+pub returns-in-Up-clause-sets : goal.returns-in-Up-clause-sets
+returns-in-Up-clause-sets g c = rw c.in-Up.is c.act_up.ensures.sets
+
+-- nothing is set of a client that is down
+down_sets : (what : Act) (disk : MemDisk) (after : Place) → SetsTrouble what (place.Down disk) after
+down_sets (act.Ask q o) disk after = tt
+down_sets act.Up disk after = tt
+down_sets (act.Crash image) disk after = tt
+down_sets (act.Fuse calls image) disk after = tt
+down_sets (act.FailAt calls) disk after = tt
+
+pub returns-after-act-clause-sets : goal.returns-after-act-clause-sets
+returns-after-act-clause-sets g c = rw c.in-Down.is (down_sets c.args.act c.in-Down.disk _)

@@ -2,17 +2,20 @@ use Rattle.std.proofs.Common.{◌≡◌, ◌∙◌, ◌++◌, ◌∷◌, ◌<◌
 use Rattle.bcv_base.specs.Log.{put_count}
 use Rattle.bcv_base.specs.declared.object.ObjName.TheVariants as object
 use Rattle.bcv_memstore.specs.Told.{log_of}
+use Rattle.bcv_model.specs.declared.event.Act.{Act}
 use Rattle.bcv_model.specs.declared.event.Event.TheVariants as event
 use Rattle.bcv_model.specs.declared.reply.Said.{Said}
 use Rattle.bcv_slots.specs.declared.Slot.{Slot}
+use Rattle.bcv_slots.specs.Numbered.{item_at}
 use Rattle.bcv_world.specs.declared.place.Place.{Place}
 use Rattle.bcv_world.specs.declared.world.World.{World}
+use Rattle.bcv_world.specs.SetTroubles.{SetsAsTold, SetsTrouble}
 use Rattle.bcv_world.specs.Standing.{TakesEvent}
 use Rattle.bcv_world.specs.Tallies.{IsTally}
 use Rattle.bcv_world.specs.WorldForm.{IsWorld, PlaceWithin, last_of_more}
 use Rattle.bcv_world.proofs.ActForms.{act_in_form}
 use Rattle.bcv_world.proofs.EventsTaken.{acted_takes, acted_world, said_with}
-use Rattle.bcv_world.proofs.PlacesKept.{place_found, place_there}
+use Rattle.bcv_world.proofs.PlacesKept.{place_found, place_there, put_found}
 use Rattle.bcv_world.proofs.world.World.act.Goals as goal
 
 pub unreachable-requires : goal.unreachable-requires
@@ -73,3 +76,16 @@ returns-clause-takes g c =
     (acted_takes c.args.self.now _ c.args.number c.args.act c.act-place.result.1 c.in-Some.place c.act-place.result.0 c.say.result c.requires.world c.requires.few c.requires.from c.requires.to found
     c.act-place.ensures.acts refl items c.numbers_differ.ensures.with c.numbers_differ.ensures.without c.numbers_differ.ensures.none refl
     (c.say.ensures.said ∙ ap (λ (o : Option ℕ). said_with o c.act-place.result.1) published))
+
+-- what is set of a place is set of the one that has the number afterwards
+set_as_told : (n : ℕ) (what : Act) (slots later : List (Slot Place)) (p new : Place) → Some p ≡ item_at n slots → item_at n later ≡ Some new → SetsTrouble what p new
+    → (before after : Place) → item_at n slots ≡ Some before → item_at n later ≡ Some after → SetsTrouble what before after
+set_as_told n what slots later p new found put sets before after is is_after =
+    subst (λ (x : Place). SetsTrouble what x after) (cc (found, is)) (subst (λ (x : Place). SetsTrouble what p x) (cc (put, is_after)) sets)
+
+pub returns-clause-sets : goal.returns-clause-sets
+returns-clause-sets g c =
+    let items = c.add.ensures ∙ ap (λ (l : List (Slot Place)). l ++ record { number = c.args.number; item = c.act-place.result.0 } ∷ []) (c.take.ensures.only c.requires.world.places_are.differ) in
+    subst (λ (w : World). SetsAsTold c.args.self.now w (event.Of c.args.number c.args.act)) (sym c.say.ensures.only)
+    (set_as_told c.args.number c.args.act c.args.self.now.places.items _ c.in-Some.place c.act-place.result.0 (sym c.in-Some.is ∙ c.take.ensures.found)
+    (ap (item_at c.args.number) items ∙ put_found c.args.number c.args.self.now.places.items c.act-place.result.0 c.numbers_differ.ensures.none) c.act-place.ensures.sets)

@@ -1,0 +1,4 @@
+pub mod Connections
+pub mod Responses
+pub mod Served
+pub mod Sessions

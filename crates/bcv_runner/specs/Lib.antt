@@ -1,0 +1,6 @@
+pub mod Endings
+pub mod Operations
+pub mod ReadAsks
+pub mod CommandAsks
+pub mod CommandTalks
+pub mod CommandRuns
