@@ -69,3 +69,4 @@ pub mod RangePieces
 pub mod RangeTalks
 pub mod RangeJoins
 pub mod RangeSteps
+pub mod CountsOn

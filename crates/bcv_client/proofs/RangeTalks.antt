@@ -27,7 +27,9 @@ use Rattle.bcv_client.specs.declared.job.Job.TheVariants as job
 use Rattle.bcv_client.proofs.AskNames.{page_named}
 use Rattle.bcv_client.proofs.AskReplies.{no_causes, no_disk, no_names, page_inside}
 use Rattle.bcv_client.proofs.AsksTaken.{locally_ask, step_ask}
+use Rattle.bcv_client.proofs.Caching.{fetch_caches, step_caches}
 use Rattle.bcv_client.proofs.CallFaults.{disk_from, fetch_causes, fetch_disk, quiet_disk}
+use Rattle.bcv_client.proofs.CountsOn.{counts_asked, counts_still}
 use Rattle.bcv_client.proofs.FallsCalls.{single_falls, unmoved_falls}
 use Rattle.bcv_client.proofs.NumberSteps.{open_still, single_steps}
 use Rattle.bcv_client.proofs.SlotsKept.{page_slots, steps_slots}
@@ -71,6 +73,8 @@ module _ {D : Type 0} {g : _} (told : DiskTold) (shown : D → DiskShown) (store
             locally_ask told shown store before names clock old new r (ask.Read n p) refl refl (no_names r inside)
             (page_named old new m.ToRead access.ToRead n p r only asks) machine;
         falls = unmoved_falls told shown store before old new names only.id log;
+        counted = counts_still before names clock;
+        caches = record { quiet = refl; does = asks };
       }
 
   -- the step of a task that reads a page, which was taken out
@@ -94,4 +98,6 @@ module _ {D : Type 0} {g : _} (told : DiskTold) (shown : D → DiskShown) (store
             step_ask told shown store before after names names clock clock old new k r
             (single_steps told shown store before after names clock old mid new k r j out (open_still old mid j out.only can) ends);
         falls = single_falls told shown store before after old mid new k names j out falls;
+        counted = counts_asked before after names clock fetches.fetches.says.later;
+        caches = record { quiet = tt; does = step_caches store before after old mid new.txns k j r out (fetch_caches store before after mid new access.ToRead n p r fetches) };
       }

@@ -1,5 +1,5 @@
 -- Which faults of its disk, its store, its names and its clock a call of a client answers, and their causes.
-use Rattle.std.specs.Prelude.{◌≡◌, Bool, true, false}
+use Rattle.std.specs.Prelude.{◌≡◌, ◌≤◌, Bool, true, false}
 use Rattle.bcv_base.specs.Drawn.{NamesShown}
 use Rattle.bcv_base.specs.Faults.{Rose}
 use Rattle.bcv_base.specs.Moments.{ClockShown}
@@ -31,3 +31,9 @@ DiskFailsAs told shown old new r =
 abbrev pub CallCauses : StoreShown → StoreShown → NamesShown → NamesShown → ClockShown → ClockShown → Reply → Type 0
 CallCauses before after names later_names clock later_clock (reply.Unknown id) = Rose before.faults after.faults
 CallCauses before after names later_names clock later_clock r = WorkCauses before after names later_names clock later_clock r
+
+-- the store, the names and the clock count no fewer faults after a call than before it
+pub record CountsOn (before after : StoreShown) (names later_names : NamesShown) (clock later_clock : ClockShown) : Type 0 where
+  pub store : before.faults ≤ after.faults
+  pub names : names.faults ≤ later_names.faults
+  pub clock : clock.faults ≤ later_clock.faults

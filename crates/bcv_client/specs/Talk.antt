@@ -7,7 +7,8 @@ use Rattle.bcv_model.specs.declared.ask.Ask.{Ask}
 use Rattle.bcv_model.specs.declared.reply.Reply.{Reply}
 use Rattle.bcv_store.specs.StoreShown.{StoreShown, StoreTold}
 use Rattle.bcv_client.specs.AskCalls.{AsksOver, SameWith}
-use Rattle.bcv_client.specs.CallFaults.{CallCauses, DiskFailsAs}
+use Rattle.bcv_client.specs.Caching.{Caches}
+use Rattle.bcv_client.specs.CallFaults.{CallCauses, CountsOn, DiskFailsAs}
 use Rattle.bcv_client.specs.Falls.{Falls}
 use Rattle.bcv_client.specs.declared.client.Client.{Client}
 
@@ -31,6 +32,8 @@ pub record Exchanged {D : Type 0} {g : _} (told : DiskTold) (shown : D → DiskS
   pub causes : CallCauses a.store b.store a.names b.names a.clock b.clock e.reply
   pub asks : AsksOver told shown store a.store b.store a.names b.names a.clock b.clock a.client b.client e.ask e.reply
   pub falls : Falls told shown store a.store b.store a.names b.names a.client b.client
+  pub counted : CountsOn a.store b.store a.names b.names a.clock b.clock
+  pub caches : Caches store a.store b.store e.ask a.client b.client e.reply
 
 -- calls in order, each from where the one before it ended
 abbrev pub Talks : {D : Type 0} {g : _} → DiskTold → (D → DiskShown) → StoreTold → Point D g → List Exchange → Point D g → Type 0

@@ -47,6 +47,7 @@ impl<D: Disk> Client<D> {
         requires client { IsClient self.old }
         requires most { len ≤ 2 ^ 24 }
         ensures client { IsClient self.new }
+        ensures reached { S.reaches store.old store.new }
         ensures reads { RangeReads D.told D.shown S.told (S.shown store.old) (S.shown store.new)
             self.old self.new txn off len into.new.items result }
     {
@@ -95,6 +96,7 @@ impl<D: Disk> Client<D> {
         requires size { 0 < span.now.page_size }
         requires empty { into.old.items ≡ [] }
         ensures client { IsClient self.new }
+        ensures reached { S.reaches store.old store.new }
         ensures tried { PiecesTried D.told D.shown S.told (S.shown store.old) (S.shown store.new)
             self.old self.new txn span.now into.new.items result }
     {
@@ -123,6 +125,7 @@ impl<D: Disk> Client<D> {
     ) -> Result<(), Reply>
         requires client { IsClient self.old }
         ensures client { IsClient self.new }
+        ensures reached { S.reaches store.old store.new }
         ensures reads { PieceReads D.told D.shown S.told (S.shown store.old) (S.shown store.new)
             self.old self.new txn piece.now into.old.items into.new.items result }
     {
@@ -140,6 +143,7 @@ impl<D: Disk> Client<D> {
     fn read_page<S: Store>(&mut self, alloc: Global, txn: u8, page: u32, store: &mut S) -> Reply
         requires client { IsClient self.old }
         ensures client { IsClient self.new }
+        ensures reached { S.reaches store.old store.new }
         ensures reads { PageReads D.told D.shown S.told (S.shown store.old) (S.shown store.new)
             self.old self.new txn page result }
     {
@@ -163,6 +167,7 @@ impl<D: Disk> Client<D> {
         requires client { IsClient self.old }
         requires task { item_at task self.old.tasks.items ≡ Some (Fetch ToRead txn page) }
         ensures client { IsClient self.new }
+        ensures reached { S.reaches store.old store.new }
         ensures reads { StepReads D.told D.shown S.told (S.shown store.old) (S.shown store.new)
             self.old self.new task result }
     {

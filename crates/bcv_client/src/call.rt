@@ -6,7 +6,7 @@ ghost use Rattle.bcv_machine.specs.Reading.{Looks};
 ghost use Rattle.bcv_client.specs.AnyMoment.{CallMoments, NotesOfAsk};
 ghost use Rattle.bcv_client.specs.AskCalls.{AskInForm, AsksOver, RepliesLook, SameWith};
 ghost use Rattle.bcv_client.specs.Caching.{Caches};
-ghost use Rattle.bcv_client.specs.CallFaults.{CallCauses, DiskFailsAs, is_io_fault};
+ghost use Rattle.bcv_client.specs.CallFaults.{CallCauses, CountsOn, DiskFailsAs, is_io_fault};
 ghost use Rattle.bcv_client.specs.Descent.{Descends};
 ghost use Rattle.bcv_client.specs.Events.{Locally};
 ghost use Rattle.bcv_client.specs.Falls.{Falls};
@@ -39,6 +39,10 @@ impl<D: Disk> Client<D> {
         ensures client { IsClient self.new }
         ensures same { SameWith ask self.old self.new }
         ensures disk { DiskFailsAs D.told D.shown self.old self.new result }
+        ensures reached { S.reaches outside.old.store outside.new.store }
+        ensures counted { CountsOn (S.shown outside.old.store) (S.shown outside.new.store)
+            (N.shown outside.old.names) (N.shown outside.new.names) (C.shown outside.old.clock)
+            (C.shown outside.new.clock) }
         ensures causes { CallCauses (S.shown outside.old.store) (S.shown outside.new.store)
             (N.shown outside.old.names) (N.shown outside.new.names) (C.shown outside.old.clock)
             (C.shown outside.new.clock) result }

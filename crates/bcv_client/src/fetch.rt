@@ -31,6 +31,7 @@ impl<D: Disk> Client<D> {
         requires form { InForm self.old }
         requires page { FetchInForm self.old.txns txn page }
         ensures form { InForm self.new }
+        ensures reached { S.reaches store.old store.new }
         ensures fetches { ClientFetches S.told (S.shown store.old) (S.shown store.new)
             self.old self.new access txn page result }
         ensures ends { EndsJob D.told D.shown S.told (S.shown store.old) (S.shown store.new)
@@ -54,6 +55,7 @@ impl<D: Disk> Client<D> {
         requires form { InForm self.old }
         requires page { FetchInForm self.old.txns txn page }
         ensures form { InForm self.new }
+        ensures reached { S.reaches store.old store.new }
         ensures fetches { FetchesStep S.told (S.shown store.old) (S.shown store.new)
             self.old self.new access txn page result }
         ensures ends { EndsJob D.told D.shown S.told (S.shown store.old) (S.shown store.new)

@@ -22,6 +22,7 @@ impl<D: Disk> Client<D> {
         ensures form { InForm self.new }
         ensures read { IsReadForm self.new.seen self.new.latest }
         ensures only { OnlyReads self.old self.new }
+        ensures reached { S.reaches store.old store.new }
         ensures polls { PollStep S.told (S.shown store.old) (S.shown store.new)
             self.old.ledger self.new.ledger self.old.seen self.new.seen self.old.latest
             self.new.latest result }

@@ -6,7 +6,7 @@ ghost use Rattle.bcv_client.specs.Caching.{PublishCaches};
 ghost use Rattle.bcv_client.specs.AnyMoment.{TaskMoments};
 ghost use Rattle.bcv_client.specs.Descent.{PublicationDescends, TaskDescends};
 ghost use Rattle.bcv_client.specs.Falls.{FallsOver, FallsTask};
-ghost use Rattle.bcv_client.specs.CallFaults.{CallCauses, DiskFailsAs};
+ghost use Rattle.bcv_client.specs.CallFaults.{CallCauses, CountsOn, DiskFailsAs};
 ghost use Rattle.bcv_client.specs.InForm.{InForm};
 ghost use Rattle.bcv_client.specs.PublicationOver.{OnlyPublishes, StandsWith, StaysInForm, StepsTask, mine_with, view_at};
 ghost use Rattle.bcv_client.specs.TaskCalls.{PublishesOver, SameClient, is_working};
@@ -45,6 +45,10 @@ impl<D: Disk> Client<D> {
         ensures read { IsReadForm self.new.seen self.new.latest }
         ensures same { SameClient self.old self.new }
         ensures disk { DiskFailsAs D.told D.shown self.old self.new result }
+        ensures reached { S.reaches outside.old.store outside.new.store }
+        ensures counted { CountsOn (S.shown outside.old.store) (S.shown outside.new.store)
+            (N.shown outside.old.names) (N.shown outside.new.names) (C.shown outside.old.clock)
+            (C.shown outside.new.clock) }
         ensures causes { CallCauses (S.shown outside.old.store) (S.shown outside.new.store)
             (N.shown outside.old.names) (N.shown outside.new.names) (C.shown outside.old.clock)
             (C.shown outside.new.clock) result }
@@ -91,6 +95,10 @@ impl<D: Disk> Client<D> {
         ensures only { OnlyPublishes self.old self.new }
         ensures goes_on { StaysInForm self.new set taken result task.new }
         ensures disk { DiskFailsAs D.told D.shown self.old self.new result }
+        ensures reached { S.reaches outside.old.store outside.new.store }
+        ensures counted { CountsOn (S.shown outside.old.store) (S.shown outside.new.store)
+            (N.shown outside.old.names) (N.shown outside.new.names) (C.shown outside.old.clock)
+            (C.shown outside.new.clock) }
         ensures causes { CallCauses (S.shown outside.old.store) (S.shown outside.new.store)
             (N.shown outside.old.names) (N.shown outside.new.names) (C.shown outside.old.clock)
             (C.shown outside.new.clock) result }

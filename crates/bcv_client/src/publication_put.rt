@@ -8,7 +8,7 @@ ghost use Rattle.bcv_publish.specs.ManifestRead.{is_other};
 ghost use Rattle.bcv_publisher.specs.PollStep.{IsReadForm};
 ghost use Rattle.bcv_tasks.specs.State.{IsRunning, is_ready, latest_of, pending_of, upload_of};
 ghost use Rattle.bcv_client.specs.Falls.{FallsPut};
-ghost use Rattle.bcv_client.specs.CallFaults.{CallCauses, DiskFailsAs};
+ghost use Rattle.bcv_client.specs.CallFaults.{CallCauses, CountsOn, DiskFailsAs};
 ghost use Rattle.bcv_client.specs.InForm.{InForm};
 ghost use Rattle.bcv_client.specs.PublicationOver.{OnlyPublishes, StaysInForm, StepsTask};
 ghost use Rattle.bcv_client.specs.PublicationPut.{ClientNotes, ClientPuts, PutsAt, SeesWhere, says_made, seen_made, set_uploaded, signed};
@@ -54,6 +54,9 @@ impl<D: Disk> Client<D> {
         ensures notes { ClientNotes D.told D.shown S.told (S.shown store.old) (S.shown store.new)
             self.old self.new set taken task.old }
         ensures disk { DiskFailsAs D.told D.shown self.old self.new result }
+        ensures reached { S.reaches store.old store.new }
+        ensures counted { (names : NamesShown) → CountsOn (S.shown store.old) (S.shown store.new)
+            names names (C.shown clock.old) (C.shown clock.new) }
         ensures causes { (names : NamesShown) → CallCauses (S.shown store.old) (S.shown store.new)
             names names (C.shown clock.old) (C.shown clock.new) result }
         ensures steps { (names : NamesShown) → StepsTask D.told D.shown S.told (S.shown store.old)
@@ -88,7 +91,8 @@ impl<D: Disk> Client<D> {
         requires upload { IfSome (upload_of taken task.old)
             (CanUpload self.old.ledger.databases.kept.locals) }
         requires is_open { is_shut self.old.ledger.log ≡ false }
-        ensures { PutsAt D.told D.shown S.told (S.shown store.old) (S.shown store.new)
+        ensures reached { S.reaches store.old store.new }
+        ensures puts { PutsAt D.told D.shown S.told (S.shown store.old) (S.shown store.new)
             self.old self.new set taken task.old moment result task.new }
     {
         let reply = put_step(

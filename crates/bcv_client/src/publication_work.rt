@@ -3,7 +3,7 @@ ghost use Rattle.std.specs.Prelude.{◌≡◌, ℕ, false};
 ghost use Rattle.bcv_keeprule.specs.Retention.{IsKeepRule};
 ghost use Rattle.bcv_publisher.specs.PollStep.{IsReadForm};
 ghost use Rattle.bcv_tasks.specs.State.{IsRunning, is_ready};
-ghost use Rattle.bcv_client.specs.CallFaults.{CallCauses, DiskFailsAs};
+ghost use Rattle.bcv_client.specs.CallFaults.{CallCauses, CountsOn, DiskFailsAs};
 ghost use Rattle.bcv_client.specs.ClientForm.{ViewInForm};
 ghost use Rattle.bcv_client.specs.Falls.{FallsTask};
 ghost use Rattle.bcv_client.specs.InForm.{InForm};
@@ -51,6 +51,10 @@ impl<D: Disk> Client<D> {
             (N.shown outside.new.names) (C.shown outside.old.clock) (C.shown outside.new.clock)
             self.old self.new set task.old result task.new }
         ensures disk { DiskFailsAs D.told D.shown self.old self.new result }
+        ensures reached { S.reaches outside.old.store outside.new.store }
+        ensures counted { CountsOn (S.shown outside.old.store) (S.shown outside.new.store)
+            (N.shown outside.old.names) (N.shown outside.new.names) (C.shown outside.old.clock)
+            (C.shown outside.new.clock) }
         ensures causes { CallCauses (S.shown outside.old.store) (S.shown outside.new.store)
             (N.shown outside.old.names) (N.shown outside.new.names) (C.shown outside.old.clock)
             (C.shown outside.new.clock) result }
@@ -88,6 +92,7 @@ impl<D: Disk> Client<D> {
         requires not_ready { is_ready task.old ≡ false }
         requires rule { IsKeepRule (F.pre rule.now.rule) (F.post rule.now.rule) }
         ensures only { self.new ≡ record self.old { txns = self.new.txns } }
+        ensures reached { S.reaches store.old store.new }
         ensures asks { AsksTask (F.post rule.now.rule) S.told (S.shown store.old)
             (S.shown store.new) (N.shown names.old) (N.shown names.new) (C.shown clock.old)
             (C.shown clock.new) self.old.seen self.old.ledger.databases set self.old.txns

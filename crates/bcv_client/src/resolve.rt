@@ -30,6 +30,7 @@ impl<D: Disk> Client<D> {
         ensures form { InForm self.new }
         ensures only { OnlyLedger self.old self.new }
         ensures tasks { self.new.tasks ≡ self.old.tasks }
+        ensures reached { S.reaches store.old store.new }
         ensures resolves { ClientResolves D.told D.shown S.told (S.shown store.old)
             (S.shown store.new) self.old self.new result }
         ensures ends { EndsJob D.told D.shown S.told (S.shown store.old) (S.shown store.new)

@@ -31,6 +31,7 @@ impl<D: Disk> Client<D> {
         ensures read { IsReadForm self.new.seen self.new.latest }
         ensures only { KeepsTasks self.old self.new }
         ensures disk { DiskFailsAs D.told D.shown self.old self.new result }
+        ensures reached { S.reaches store.old store.new }
         ensures causes { (names : NamesShown) → (clock : ClockShown) → CallCauses
             (S.shown store.old) (S.shown store.new) names names clock clock result }
         ensures ends { EndsJob D.told D.shown S.told (S.shown store.old) (S.shown store.new)

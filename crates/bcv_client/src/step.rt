@@ -6,7 +6,7 @@ ghost use Rattle.bcv_client.specs.Caching.{StepCaches};
 ghost use Rattle.bcv_client.specs.AnyMoment.{CallMoments, NotesOfStep};
 ghost use Rattle.bcv_client.specs.Descent.{StepDescends};
 ghost use Rattle.bcv_client.specs.Falls.{Falls};
-ghost use Rattle.bcv_client.specs.CallFaults.{CallCauses, DiskFailsAs};
+ghost use Rattle.bcv_client.specs.CallFaults.{CallCauses, CountsOn, DiskFailsAs};
 ghost use Rattle.bcv_client.specs.InForm.{IsClient};
 ghost use Rattle.bcv_client.specs.TaskCalls.{SameClient, StepsNumber};
 
@@ -36,6 +36,10 @@ impl<D: Disk> Client<D> {
         ensures client { IsClient self.new }
         ensures same { SameClient self.old self.new }
         ensures disk { DiskFailsAs D.told D.shown self.old self.new result }
+        ensures reached { S.reaches outside.old.store outside.new.store }
+        ensures counted { CountsOn (S.shown outside.old.store) (S.shown outside.new.store)
+            (N.shown outside.old.names) (N.shown outside.new.names) (C.shown outside.old.clock)
+            (C.shown outside.new.clock) }
         ensures causes { CallCauses (S.shown outside.old.store) (S.shown outside.new.store)
             (N.shown outside.old.names) (N.shown outside.new.names) (C.shown outside.old.clock)
             (C.shown outside.new.clock) result }

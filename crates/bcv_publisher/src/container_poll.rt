@@ -31,7 +31,8 @@ pub fn poll_step<D: Disk, S: Store>(
     latest: &mut Option<Latest>,
 ) -> Reply
     requires form { IsReadForm seen.old latest.old }
-    ensures { PollStep S.told (S.shown store.old) (S.shown store.new) ledger.old ledger.new
+    ensures reached { S.reaches store.old store.new }
+    ensures polls { PollStep S.told (S.shown store.old) (S.shown store.new) ledger.old ledger.new
         seen.old seen.new latest.old latest.new result }
 {
     let answer = poll(alloc, store, seen, etag_in(latest));

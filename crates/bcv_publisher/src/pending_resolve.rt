@@ -23,7 +23,8 @@ pub fn resolve_step<D: Disk, S: Store>(
 ) -> Reply
     requires pending { is_some ledger.old.databases.kept.pending ≡ true }
     requires is_open { is_shut ledger.old.log ≡ false }
-    ensures { ResolveStep D.told D.shown S.told (S.shown store.old) (S.shown store.new)
+    ensures reached { S.reaches store.old store.new }
+    ensures resolves { ResolveStep D.told D.shown S.told (S.shown store.old) (S.shown store.new)
         ledger.old ledger.new writer seen.now result }
 {
     let Some(pending) = ledger.pending() else {

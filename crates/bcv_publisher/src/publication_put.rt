@@ -35,6 +35,7 @@ pub fn put_step<D: Disk, S: Store>(
     requires upload { IfSome (upload_of taken task.old)
         (CanUpload ledger.old.databases.kept.locals) }
     requires is_open { is_shut ledger.old.log ≡ false }
+    ensures reached { S.reaches store.old store.new }
     ensures puts { PutStep D.told D.shown S.told (S.shown store.old) (S.shown store.new)
         ledger.old ledger.new seen.now taken task.old moment result task.new }
     ensures notes { PutNotes D.told D.shown S.told (S.shown store.old) (S.shown store.new)

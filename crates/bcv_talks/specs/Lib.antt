@@ -9,3 +9,4 @@ pub mod RunNames
 pub mod TalkStarts
 pub mod TalkAlone
 pub mod TalkTotals
+pub mod ReadRequests

@@ -6,9 +6,11 @@
 //! from side to side. Each function does nothing: its clauses are laws for the proofs above to cite.
 #![tactic(auto)]
 
+mod reading;
 mod runs;
 mod talks;
 
+pub use reading::reads_fetch_what_is_far;
 pub use runs::runs_go_on;
 pub use talks::{
     talks_are_honest, talks_are_runs, talks_are_runs_alone, talks_begin, talks_join,

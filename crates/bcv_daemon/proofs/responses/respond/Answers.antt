@@ -22,13 +22,13 @@ returns-in-None-clause-answered g c =
 pub returns-in-List-clause-answered : goal.returns-in-List-clause-answered
 returns-in-List-clause-answered g c =
     let e = c.call.ensures in
-    answered_as g.D.Disk.told g.D.Disk.shown g.S.Store.told _ _ _ _ _ _ _ c.in-List.is (called g.D.Disk.told g.D.Disk.shown g.S.Store.told _ _ _ _ (message.List c.in-List.session) c.rows_answer.result ask.List c.call.result (record { same = e.same; disk = e.disk; causes = e.causes; asks = e.asks; falls = e.falls })
+    answered_as g.D.Disk.told g.D.Disk.shown g.S.Store.told _ _ _ _ _ _ _ c.in-List.is (called g.D.Disk.told g.D.Disk.shown g.S.Store.told _ _ _ _ (message.List c.in-List.session) c.rows_answer.result ask.List c.call.result (record { same = e.same; disk = e.disk; causes = e.causes; asks = e.asks; falls = e.falls; counted = e.counted; caches = e.caches })
     (refl, (c.call.result, refl, c.rows_answer.ensures)))
 
 pub returns-in-Some-txn_of-clause-answered : goal.returns-in-Some-txn_of-clause-answered
 returns-in-Some-txn_of-clause-answered g c =
     let e = c.call-in-Some-txn_of.ensures in
-    answered_as g.D.Disk.told g.D.Disk.shown g.S.Store.told _ _ _ _ _ _ _ c.in-End.is (called g.D.Disk.told g.D.Disk.shown g.S.Store.told _ _ _ _ (message.End c.in-End.session) c.fine_answer.result (ask.End c.in-Some-txn_of.txn) c.call-in-Some-txn_of.result (record { same = e.same; disk = e.disk; causes = e.causes; asks = e.asks; falls = e.falls })
+    answered_as g.D.Disk.told g.D.Disk.shown g.S.Store.told _ _ _ _ _ _ _ c.in-End.is (called g.D.Disk.told g.D.Disk.shown g.S.Store.told _ _ _ _ (message.End c.in-End.session) c.fine_answer.result (ask.End c.in-Some-txn_of.txn) c.call-in-Some-txn_of.result (record { same = e.same; disk = e.disk; causes = e.causes; asks = e.asks; falls = e.falls; counted = e.counted; caches = e.caches })
     (ends_some c.args.sessions.now.items c.close.new.sessions.items c.in-End.session c.in-Some-txn_of.txn c.call-in-Some-txn_of.result c.fine_answer.result
     (found c.args.sessions.now.items _ c.in-End.session _ (Some c.in-Some-txn_of.txn) c.deref-in-End.ensures.value c.txn_of-in-End.ensures c.in-Some-txn_of.is) c.close.ensures c.fine_answer.ensures))
 
@@ -56,7 +56,7 @@ returns-in-None-txn_of-3-clause-answered g c =
 pub returns-in-Some-txn_of-4-clause-answered : goal.returns-in-Some-txn_of-4-clause-answered
 returns-in-Some-txn_of-4-clause-answered g c =
     let e = c.call-in-Some-txn_of-4.ensures in
-    answered_as g.D.Disk.told g.D.Disk.shown g.S.Store.told _ _ _ _ _ _ _ c.in-Look.is (called g.D.Disk.told g.D.Disk.shown g.S.Store.told _ _ _ _ (message.Look c.in-Look.session c.in-Look.page) c.page_answer.result (ask.Look c.in-Some-txn_of-4.txn c.in-Look.page) c.call-in-Some-txn_of-4.result (record { same = e.same; disk = e.disk; causes = e.causes; asks = e.asks; falls = e.falls })
+    answered_as g.D.Disk.told g.D.Disk.shown g.S.Store.told _ _ _ _ _ _ _ c.in-Look.is (called g.D.Disk.told g.D.Disk.shown g.S.Store.told _ _ _ _ (message.Look c.in-Look.session c.in-Look.page) c.page_answer.result (ask.Look c.in-Some-txn_of-4.txn c.in-Look.page) c.call-in-Some-txn_of-4.result (record { same = e.same; disk = e.disk; causes = e.causes; asks = e.asks; falls = e.falls; counted = e.counted; caches = e.caches })
     (refl, in_session _ c.in-Some-txn_of-4.txn _ _ _ (found c.args.sessions.now.items _ c.in-Look.session _ (Some c.in-Some-txn_of-4.txn) c.deref-in-Look.ensures.value c.txn_of-in-Look.ensures c.in-Some-txn_of-4.is) (c.call-in-Some-txn_of-4.result, refl, c.page_answer.ensures)))
 
 pub returns-in-None-txn_of-4-clause-answered : goal.returns-in-None-txn_of-4-clause-answered
@@ -66,7 +66,7 @@ returns-in-None-txn_of-4-clause-answered g c =
 pub returns-in-Some-txn_of-5-clause-answered : goal.returns-in-Some-txn_of-5-clause-answered
 returns-in-Some-txn_of-5-clause-answered g c =
     let e = c.call-in-Some-txn_of-5.ensures in
-    answered_as g.D.Disk.told g.D.Disk.shown g.S.Store.told _ _ _ _ _ _ _ c.in-Free.is (called g.D.Disk.told g.D.Disk.shown g.S.Store.told _ _ _ _ (message.Free c.in-Free.session c.in-Free.page) c.fine_answer-in-Some-txn_of-5.result (ask.Free c.in-Some-txn_of-5.txn c.in-Free.page) c.call-in-Some-txn_of-5.result (record { same = e.same; disk = e.disk; causes = e.causes; asks = e.asks; falls = e.falls })
+    answered_as g.D.Disk.told g.D.Disk.shown g.S.Store.told _ _ _ _ _ _ _ c.in-Free.is (called g.D.Disk.told g.D.Disk.shown g.S.Store.told _ _ _ _ (message.Free c.in-Free.session c.in-Free.page) c.fine_answer-in-Some-txn_of-5.result (ask.Free c.in-Some-txn_of-5.txn c.in-Free.page) c.call-in-Some-txn_of-5.result (record { same = e.same; disk = e.disk; causes = e.causes; asks = e.asks; falls = e.falls; counted = e.counted; caches = e.caches })
     (refl, in_session _ c.in-Some-txn_of-5.txn _ _ _ (found c.args.sessions.now.items _ c.in-Free.session _ (Some c.in-Some-txn_of-5.txn) c.deref-in-Free.ensures.value c.txn_of-in-Free.ensures c.in-Some-txn_of-5.is) (c.call-in-Some-txn_of-5.result, refl, c.fine_answer-in-Some-txn_of-5.ensures)))
 
 pub returns-in-None-txn_of-5-clause-answered : goal.returns-in-None-txn_of-5-clause-answered

@@ -25,6 +25,7 @@ use Rattle.bcv_client.specs.AnyMoment.{NotesOfCommit, NotesOfRevert}
 use Rattle.bcv_client.proofs.CallMoments.{asked_moments, local_moments, quiet_ask}
 use Rattle.bcv_client.proofs.Descent.{as_descends}
 use Rattle.bcv_client.proofs.Caching.{as_cached}
+use Rattle.bcv_client.proofs.CountsOn.{counts_still, starts_count}
 use Rattle.bcv_client.proofs.client.Client.call.Goals as goal
 
 pub begin-requires : goal.begin-requires
@@ -862,3 +863,119 @@ returns-in-Resolve-clause-caches g c =
 pub returns-in-Step-clause-caches : goal.returns-in-Step-clause-caches
 returns-in-Step-clause-caches g c =
     as_cached g.S.Store.told (g.S.Store.shown c.args.outside.now.store) (g.S.Store.shown c.step.new.outside.store) c.args.ask _ c.args.self.now c.step.new.self c.step.result c.in-Step.is (record { quiet = tt; does = c.step.ensures.caches })
+
+-- ---- the store
+
+pub returns-in-Begin-clause-reached : goal.returns-in-Begin-clause-reached
+returns-in-Begin-clause-reached g c = g.met.S.Store.same c.args.outside.now.store
+
+pub returns-in-Read-clause-reached : goal.returns-in-Read-clause-reached
+returns-in-Read-clause-reached g c = g.met.S.Store.same c.args.outside.now.store
+
+pub returns-in-Hold-clause-reached : goal.returns-in-Hold-clause-reached
+returns-in-Hold-clause-reached g c = g.met.S.Store.same c.args.outside.now.store
+
+pub returns-in-Look-clause-reached : goal.returns-in-Look-clause-reached
+returns-in-Look-clause-reached g c = g.met.S.Store.same c.args.outside.now.store
+
+pub returns-in-Free-clause-reached : goal.returns-in-Free-clause-reached
+returns-in-Free-clause-reached g c = g.met.S.Store.same c.args.outside.now.store
+
+pub returns-in-End-clause-reached : goal.returns-in-End-clause-reached
+returns-in-End-clause-reached g c = g.met.S.Store.same c.args.outside.now.store
+
+pub returns-in-Commit-clause-reached : goal.returns-in-Commit-clause-reached
+returns-in-Commit-clause-reached g c = g.met.S.Store.same c.args.outside.now.store
+
+pub returns-in-Revert-clause-reached : goal.returns-in-Revert-clause-reached
+returns-in-Revert-clause-reached g c = g.met.S.Store.same c.args.outside.now.store
+
+pub returns-in-List-clause-reached : goal.returns-in-List-clause-reached
+returns-in-List-clause-reached g c = g.met.S.Store.same c.args.outside.now.store
+
+pub returns-in-Create-clause-reached : goal.returns-in-Create-clause-reached
+returns-in-Create-clause-reached g c = g.met.S.Store.same c.args.outside.now.store
+
+pub returns-in-NewDb-clause-reached : goal.returns-in-NewDb-clause-reached
+returns-in-NewDb-clause-reached g c = g.met.S.Store.same c.args.outside.now.store
+
+pub returns-in-Upload-clause-reached : goal.returns-in-Upload-clause-reached
+returns-in-Upload-clause-reached g c = g.met.S.Store.same c.args.outside.now.store
+
+pub returns-in-Copy-clause-reached : goal.returns-in-Copy-clause-reached
+returns-in-Copy-clause-reached g c = g.met.S.Store.same c.args.outside.now.store
+
+pub returns-in-Remove-clause-reached : goal.returns-in-Remove-clause-reached
+returns-in-Remove-clause-reached g c = g.met.S.Store.same c.args.outside.now.store
+
+pub returns-in-Poll-clause-reached : goal.returns-in-Poll-clause-reached
+returns-in-Poll-clause-reached g c = g.met.S.Store.same c.args.outside.now.store
+
+pub returns-in-Cleanup-clause-reached : goal.returns-in-Cleanup-clause-reached
+returns-in-Cleanup-clause-reached g c = g.met.S.Store.same c.args.outside.now.store
+
+pub returns-in-Resolve-clause-reached : goal.returns-in-Resolve-clause-reached
+returns-in-Resolve-clause-reached g c = g.met.S.Store.same c.args.outside.now.store
+
+pub returns-in-Step-clause-reached : goal.returns-in-Step-clause-reached
+returns-in-Step-clause-reached g c = c.step.ensures.reached
+
+pub returns-in-Begin-clause-counted : goal.returns-in-Begin-clause-counted
+returns-in-Begin-clause-counted g c = counts_still (g.S.Store.shown c.args.outside.now.store) (g.N.Names.shown c.args.outside.now.names) (g.C.Clock.shown c.args.outside.now.clock)
+
+pub returns-in-Read-clause-counted : goal.returns-in-Read-clause-counted
+returns-in-Read-clause-counted g c = counts_still (g.S.Store.shown c.args.outside.now.store) (g.N.Names.shown c.args.outside.now.names) (g.C.Clock.shown c.args.outside.now.clock)
+
+pub returns-in-Hold-clause-counted : goal.returns-in-Hold-clause-counted
+returns-in-Hold-clause-counted g c = counts_still (g.S.Store.shown c.args.outside.now.store) (g.N.Names.shown c.args.outside.now.names) (g.C.Clock.shown c.args.outside.now.clock)
+
+pub returns-in-Look-clause-counted : goal.returns-in-Look-clause-counted
+returns-in-Look-clause-counted g c = counts_still (g.S.Store.shown c.args.outside.now.store) (g.N.Names.shown c.args.outside.now.names) (g.C.Clock.shown c.args.outside.now.clock)
+
+pub returns-in-Free-clause-counted : goal.returns-in-Free-clause-counted
+returns-in-Free-clause-counted g c = counts_still (g.S.Store.shown c.args.outside.now.store) (g.N.Names.shown c.args.outside.now.names) (g.C.Clock.shown c.args.outside.now.clock)
+
+pub returns-in-End-clause-counted : goal.returns-in-End-clause-counted
+returns-in-End-clause-counted g c = counts_still (g.S.Store.shown c.args.outside.now.store) (g.N.Names.shown c.args.outside.now.names) (g.C.Clock.shown c.args.outside.now.clock)
+
+pub returns-in-Commit-clause-counted : goal.returns-in-Commit-clause-counted
+returns-in-Commit-clause-counted g c = counts_still (g.S.Store.shown c.args.outside.now.store) (g.N.Names.shown c.args.outside.now.names) (g.C.Clock.shown c.args.outside.now.clock)
+
+pub returns-in-Revert-clause-counted : goal.returns-in-Revert-clause-counted
+returns-in-Revert-clause-counted g c = counts_still (g.S.Store.shown c.args.outside.now.store) (g.N.Names.shown c.args.outside.now.names) (g.C.Clock.shown c.args.outside.now.clock)
+
+pub returns-in-List-clause-counted : goal.returns-in-List-clause-counted
+returns-in-List-clause-counted g c = counts_still (g.S.Store.shown c.args.outside.now.store) (g.N.Names.shown c.args.outside.now.names) (g.C.Clock.shown c.args.outside.now.clock)
+
+pub returns-in-Poll-clause-counted : goal.returns-in-Poll-clause-counted
+returns-in-Poll-clause-counted g c = counts_still (g.S.Store.shown c.args.outside.now.store) (g.N.Names.shown c.args.outside.now.names) (g.C.Clock.shown c.args.outside.now.clock)
+
+pub returns-in-Resolve-clause-counted : goal.returns-in-Resolve-clause-counted
+returns-in-Resolve-clause-counted g c = counts_still (g.S.Store.shown c.args.outside.now.store) (g.N.Names.shown c.args.outside.now.names) (g.C.Clock.shown c.args.outside.now.clock)
+
+pub returns-in-Create-clause-counted : goal.returns-in-Create-clause-counted
+returns-in-Create-clause-counted g c = 
+    starts_count (g.S.Store.shown c.args.outside.now.store) (g.C.Clock.shown c.args.outside.now.clock) (g.N.Names.shown c.args.outside.now.names) (g.N.Names.shown c.start_create.new.names) c.args.self.now c.start_create.new.self _ c.start_create.result c.start_create.ensures.starts
+
+pub returns-in-NewDb-clause-counted : goal.returns-in-NewDb-clause-counted
+returns-in-NewDb-clause-counted g c = 
+    starts_count (g.S.Store.shown c.args.outside.now.store) (g.C.Clock.shown c.args.outside.now.clock) (g.N.Names.shown c.args.outside.now.names) (g.N.Names.shown c.start_copy.new.names) c.args.self.now c.start_copy.new.self _ c.start_copy.result c.start_copy.ensures.starts
+
+pub returns-in-Upload-clause-counted : goal.returns-in-Upload-clause-counted
+returns-in-Upload-clause-counted g c = 
+    starts_count (g.S.Store.shown c.args.outside.now.store) (g.C.Clock.shown c.args.outside.now.clock) (g.N.Names.shown c.args.outside.now.names) (g.N.Names.shown c.start_upload.new.names) c.args.self.now c.start_upload.new.self _ c.start_upload.result c.start_upload.ensures.starts
+
+pub returns-in-Copy-clause-counted : goal.returns-in-Copy-clause-counted
+returns-in-Copy-clause-counted g c = 
+    starts_count (g.S.Store.shown c.args.outside.now.store) (g.C.Clock.shown c.args.outside.now.clock) (g.N.Names.shown c.args.outside.now.names) (g.N.Names.shown c.start_copy-in-Copy.new.names) c.args.self.now c.start_copy-in-Copy.new.self _ c.start_copy-in-Copy.result c.start_copy-in-Copy.ensures.starts
+
+pub returns-in-Remove-clause-counted : goal.returns-in-Remove-clause-counted
+returns-in-Remove-clause-counted g c = 
+    starts_count (g.S.Store.shown c.args.outside.now.store) (g.C.Clock.shown c.args.outside.now.clock) (g.N.Names.shown c.args.outside.now.names) (g.N.Names.shown c.start_copy-in-Remove.new.names) c.args.self.now c.start_copy-in-Remove.new.self _ c.start_copy-in-Remove.result c.start_copy-in-Remove.ensures.starts
+
+pub returns-in-Cleanup-clause-counted : goal.returns-in-Cleanup-clause-counted
+returns-in-Cleanup-clause-counted g c = 
+    starts_count (g.S.Store.shown c.args.outside.now.store) (g.C.Clock.shown c.args.outside.now.clock) (g.N.Names.shown c.args.outside.now.names) (g.N.Names.shown c.start_cleanup.new.names) c.args.self.now c.start_cleanup.new.self _ c.start_cleanup.result c.start_cleanup.ensures.starts
+
+pub returns-in-Step-clause-counted : goal.returns-in-Step-clause-counted
+returns-in-Step-clause-counted g c = c.step.ensures.counted

@@ -23,3 +23,6 @@ returns-clause-ends g c =
 
 pub returns-clause-falls : goal.returns-clause-falls
 returns-clause-falls g c = c.fetch_page.ensures.falls
+
+pub returns-clause-reached : goal.returns-clause-reached
+returns-clause-reached g c = c.fetch_page.ensures.reached

@@ -132,3 +132,9 @@ returns-in-ToHold-clause-falls g c =
     let old = c.args.self.now in
     others_fall g.D.Disk.told g.D.Disk.shown g.S.Store.told (g.S.Store.shown c.args.store.now) (g.S.Store.shown c.hold_step.new.store) old (record old { txns = c.hold_step.new.self }) refl refl
     (λ tells mine f stands all honest. let s = c.hold_step.ensures.sound tells mine stands.sound honest in (s.growth, s.no_own))
+
+pub returns-in-ToRead-clause-reached : goal.returns-in-ToRead-clause-reached
+returns-in-ToRead-clause-reached g c = c.read_step.ensures.reached
+
+pub returns-in-ToHold-clause-reached : goal.returns-in-ToHold-clause-reached
+returns-in-ToHold-clause-reached g c = c.hold_step.ensures.reached

@@ -137,3 +137,15 @@ pub returns-clause-caches : goal.returns-clause-caches
 returns-clause-caches g c =
     subst (λ (o : Open). PublishCaches (view_at c.args.self.now.ledger.databases c.args.set c.args.task) c.args.task c.args.self.now.txns o)
     (sym c.give_back.ensures.back.only.txns) c.publish_once-reply.ensures.caches
+
+pub returns-then-not-is_working-clause-reached : goal.returns-then-not-is_working-clause-reached
+returns-then-not-is_working-clause-reached g c = c.publish_once-reply.ensures.reached
+
+pub returns-clause-reached : goal.returns-clause-reached
+returns-clause-reached g c = c.publish_once-reply.ensures.reached
+
+pub returns-then-not-is_working-clause-counted : goal.returns-then-not-is_working-clause-counted
+returns-then-not-is_working-clause-counted g c = c.publish_once-reply.ensures.counted
+
+pub returns-clause-counted : goal.returns-clause-counted
+returns-clause-counted g c = c.publish_once-reply.ensures.counted

@@ -114,3 +114,15 @@ returns-clause-caches g c =
     work_caches g.D.Disk.told g.D.Disk.shown g.S.Store.told (g.S.Store.shown c.args.outside.now.store) (g.S.Store.shown c.work_task.new.outside.store) (g.C.Clock.shown c.args.outside.now.clock)
     (g.C.Clock.shown c.work_task.new.outside.clock) c.args.self.now c.work_task.new.self _ (g.N.Names.shown c.args.outside.now.names) (g.N.Names.shown c.work_task.new.outside.names) c.args.set
     c.args.task.now c.work_task.new.task c.work_task.result c.work_task.ensures.works
+
+pub returns-then-ready-clause-reached : goal.returns-then-ready-clause-reached
+returns-then-ready-clause-reached g c = c.put_task.ensures.reached
+
+pub returns-clause-reached : goal.returns-clause-reached
+returns-clause-reached g c = c.work_task.ensures.reached
+
+pub returns-then-ready-clause-counted : goal.returns-then-ready-clause-counted
+returns-then-ready-clause-counted g c = c.put_task.ensures.counted (g.N.Names.shown c.args.outside.now.names)
+
+pub returns-clause-counted : goal.returns-clause-counted
+returns-clause-counted g c = c.work_task.ensures.counted

@@ -21,8 +21,8 @@ put_step-reply-requires-clause-upload g c = c.requires.upload
 pub put_step-reply-requires-clause-is_open : goal.put_step-reply-requires-clause-is_open
 put_step-reply-requires-clause-is_open g c = c.requires.is_open
 
-pub returns : goal.returns
-returns g c = record {
+pub returns-clause-puts : goal.returns-clause-puts
+returns-clause-puts g c = record {
   only = record { id = refl; latest = refl; txns = refl; tasks = refl; taken = refl };
   mid = c.put_step-reply.new.ledger;
   puts = c.put_step-reply.ensures.puts;
@@ -35,3 +35,6 @@ returns g c = record {
       (subst (λ (ss : List (Slot Job)). TrimsWhere c.says_made-made.result c.set_uploaded.result c.put_step-reply.new.ledger c.trim_where.new.ledger c.args.self.now.txns ss) c.deref.ensures.value c.trim_where.ensures.trims));
   views = c.trim_where.ensures.views;
 }
+
+pub returns-clause-reached : goal.returns-clause-reached
+returns-clause-reached g c = c.put_step-reply.ensures.reached

@@ -15,6 +15,7 @@ use Rattle.bcv_client.proofs.TaskStands.{waits_for}
 use Rattle.bcv_client.proofs.PutSteps.{put_holds, untimed_holds, untimed_notes}
 use Rattle.bcv_client.proofs.PutTasks.{signed_form, signed_ready}
 use Rattle.bcv_client.proofs.FallsSteps.{put_falls}
+use Rattle.bcv_client.proofs.CountsOn.{told_counts}
 use Rattle.bcv_client.proofs.client.Client.put_task.Goals as goal
 
 pub put_at-requires-clause-running : goal.put_at-requires-clause-running
@@ -52,7 +53,7 @@ returns-in-At-clause-form g c =
     let told_moment = subst (λ (x : Now). Tells (g.C.Clock.shown c.args.clock.now) (g.C.Clock.shown c.now.new.self) x) c.in-At.is c.now.ensures.tells in
     let step =
     subst (λ (t : PublishTask). PutsAt g.D.Disk.told g.D.Disk.shown g.S.Store.told (g.S.Store.shown c.args.store.now) (g.S.Store.shown c.put_at.new.store) s c.put_at.new.self c.args.set c.args.taken t c.in-At.moment c.put_at.result
-    c.put_at.new.task) c.sign.ensures c.put_at.ensures in
+    c.put_at.new.task) c.sign.ensures c.put_at.ensures.puts in
     (put_holds g.D.Disk.told g.D.Disk.shown g.S.Store.told (g.S.Store.shown c.args.store.now) (g.S.Store.shown c.put_at.new.store) (g.C.Clock.shown c.args.clock.now) (g.C.Clock.shown c.now.new.self) s c.put_at.new.self
     c.args.set c.args.taken c.args.task.now c.in-At.moment c.put_at.result c.put_at.new.task told_moment step c.requires.form c.requires.can.form c.requires.ready (c.requires.can.alone refl) c.ranges.taken.fits c.requires.read
     (subst IsId c.id.ensures c.bytes.ensures.id)).form
@@ -63,7 +64,7 @@ returns-in-At-clause-read g c =
     let told_moment = subst (λ (x : Now). Tells (g.C.Clock.shown c.args.clock.now) (g.C.Clock.shown c.now.new.self) x) c.in-At.is c.now.ensures.tells in
     let step =
     subst (λ (t : PublishTask). PutsAt g.D.Disk.told g.D.Disk.shown g.S.Store.told (g.S.Store.shown c.args.store.now) (g.S.Store.shown c.put_at.new.store) s c.put_at.new.self c.args.set c.args.taken t c.in-At.moment c.put_at.result
-    c.put_at.new.task) c.sign.ensures c.put_at.ensures in
+    c.put_at.new.task) c.sign.ensures c.put_at.ensures.puts in
     (put_holds g.D.Disk.told g.D.Disk.shown g.S.Store.told (g.S.Store.shown c.args.store.now) (g.S.Store.shown c.put_at.new.store) (g.C.Clock.shown c.args.clock.now) (g.C.Clock.shown c.now.new.self) s c.put_at.new.self
     c.args.set c.args.taken c.args.task.now c.in-At.moment c.put_at.result c.put_at.new.task told_moment step c.requires.form c.requires.can.form c.requires.ready (c.requires.can.alone refl) c.ranges.taken.fits c.requires.read
     (subst IsId c.id.ensures c.bytes.ensures.id)).read
@@ -74,7 +75,7 @@ returns-in-At-clause-only g c =
     let told_moment = subst (λ (x : Now). Tells (g.C.Clock.shown c.args.clock.now) (g.C.Clock.shown c.now.new.self) x) c.in-At.is c.now.ensures.tells in
     let step =
     subst (λ (t : PublishTask). PutsAt g.D.Disk.told g.D.Disk.shown g.S.Store.told (g.S.Store.shown c.args.store.now) (g.S.Store.shown c.put_at.new.store) s c.put_at.new.self c.args.set c.args.taken t c.in-At.moment c.put_at.result
-    c.put_at.new.task) c.sign.ensures c.put_at.ensures in
+    c.put_at.new.task) c.sign.ensures c.put_at.ensures.puts in
     (put_holds g.D.Disk.told g.D.Disk.shown g.S.Store.told (g.S.Store.shown c.args.store.now) (g.S.Store.shown c.put_at.new.store) (g.C.Clock.shown c.args.clock.now) (g.C.Clock.shown c.now.new.self) s c.put_at.new.self
     c.args.set c.args.taken c.args.task.now c.in-At.moment c.put_at.result c.put_at.new.task told_moment step c.requires.form c.requires.can.form c.requires.ready (c.requires.can.alone refl) c.ranges.taken.fits c.requires.read
     (subst IsId c.id.ensures c.bytes.ensures.id)).only
@@ -85,7 +86,7 @@ returns-in-At-clause-goes_on g c =
     let told_moment = subst (λ (x : Now). Tells (g.C.Clock.shown c.args.clock.now) (g.C.Clock.shown c.now.new.self) x) c.in-At.is c.now.ensures.tells in
     let step =
     subst (λ (t : PublishTask). PutsAt g.D.Disk.told g.D.Disk.shown g.S.Store.told (g.S.Store.shown c.args.store.now) (g.S.Store.shown c.put_at.new.store) s c.put_at.new.self c.args.set c.args.taken t c.in-At.moment c.put_at.result
-    c.put_at.new.task) c.sign.ensures c.put_at.ensures in
+    c.put_at.new.task) c.sign.ensures c.put_at.ensures.puts in
     (put_holds g.D.Disk.told g.D.Disk.shown g.S.Store.told (g.S.Store.shown c.args.store.now) (g.S.Store.shown c.put_at.new.store) (g.C.Clock.shown c.args.clock.now) (g.C.Clock.shown c.now.new.self) s c.put_at.new.self
     c.args.set c.args.taken c.args.task.now c.in-At.moment c.put_at.result c.put_at.new.task told_moment step c.requires.form c.requires.can.form c.requires.ready (c.requires.can.alone refl) c.ranges.taken.fits c.requires.read
     (subst IsId c.id.ensures c.bytes.ensures.id)).stays
@@ -96,7 +97,7 @@ returns-in-At-clause-puts g c =
     let told_moment = subst (λ (x : Now). Tells (g.C.Clock.shown c.args.clock.now) (g.C.Clock.shown c.now.new.self) x) c.in-At.is c.now.ensures.tells in
     let step =
     subst (λ (t : PublishTask). PutsAt g.D.Disk.told g.D.Disk.shown g.S.Store.told (g.S.Store.shown c.args.store.now) (g.S.Store.shown c.put_at.new.store) s c.put_at.new.self c.args.set c.args.taken t c.in-At.moment c.put_at.result
-    c.put_at.new.task) c.sign.ensures c.put_at.ensures in
+    c.put_at.new.task) c.sign.ensures c.put_at.ensures.puts in
     (put_holds g.D.Disk.told g.D.Disk.shown g.S.Store.told (g.S.Store.shown c.args.store.now) (g.S.Store.shown c.put_at.new.store) (g.C.Clock.shown c.args.clock.now) (g.C.Clock.shown c.now.new.self) s c.put_at.new.self
     c.args.set c.args.taken c.args.task.now c.in-At.moment c.put_at.result c.put_at.new.task told_moment step c.requires.form c.requires.can.form c.requires.ready (c.requires.can.alone refl) c.ranges.taken.fits c.requires.read
     (subst IsId c.id.ensures c.bytes.ensures.id)).puts
@@ -107,7 +108,7 @@ returns-in-At-clause-notes g c =
     let told_moment = subst (λ (x : Now). Tells (g.C.Clock.shown c.args.clock.now) (g.C.Clock.shown c.now.new.self) x) c.in-At.is c.now.ensures.tells in
     let step =
     subst (λ (t : PublishTask). PutsAt g.D.Disk.told g.D.Disk.shown g.S.Store.told (g.S.Store.shown c.args.store.now) (g.S.Store.shown c.put_at.new.store) s c.put_at.new.self c.args.set c.args.taken t c.in-At.moment c.put_at.result
-    c.put_at.new.task) c.sign.ensures c.put_at.ensures in
+    c.put_at.new.task) c.sign.ensures c.put_at.ensures.puts in
     (put_holds g.D.Disk.told g.D.Disk.shown g.S.Store.told (g.S.Store.shown c.args.store.now) (g.S.Store.shown c.put_at.new.store) (g.C.Clock.shown c.args.clock.now) (g.C.Clock.shown c.now.new.self) s c.put_at.new.self
     c.args.set c.args.taken c.args.task.now c.in-At.moment c.put_at.result c.put_at.new.task told_moment step c.requires.form c.requires.can.form c.requires.ready (c.requires.can.alone refl) c.ranges.taken.fits c.requires.read
     (subst IsId c.id.ensures c.bytes.ensures.id)).notes
@@ -118,7 +119,7 @@ returns-in-At-clause-steps g c =
     let told_moment = subst (λ (x : Now). Tells (g.C.Clock.shown c.args.clock.now) (g.C.Clock.shown c.now.new.self) x) c.in-At.is c.now.ensures.tells in
     let step =
     subst (λ (t : PublishTask). PutsAt g.D.Disk.told g.D.Disk.shown g.S.Store.told (g.S.Store.shown c.args.store.now) (g.S.Store.shown c.put_at.new.store) s c.put_at.new.self c.args.set c.args.taken t c.in-At.moment c.put_at.result
-    c.put_at.new.task) c.sign.ensures c.put_at.ensures in
+    c.put_at.new.task) c.sign.ensures c.put_at.ensures.puts in
     (put_holds g.D.Disk.told g.D.Disk.shown g.S.Store.told (g.S.Store.shown c.args.store.now) (g.S.Store.shown c.put_at.new.store) (g.C.Clock.shown c.args.clock.now) (g.C.Clock.shown c.now.new.self) s c.put_at.new.self
     c.args.set c.args.taken c.args.task.now c.in-At.moment c.put_at.result c.put_at.new.task told_moment step c.requires.form c.requires.can.form c.requires.ready (c.requires.can.alone refl) c.ranges.taken.fits c.requires.read
     (subst IsId c.id.ensures c.bytes.ensures.id)).steps
@@ -267,3 +268,19 @@ returns-in-Failed-clause-disk g c =
 pub returns-in-Failed-clause-causes : goal.returns-in-Failed-clause-causes
 returns-in-Failed-clause-causes g c = λ names.
     put_causes g.D.Disk.told g.D.Disk.shown g.S.Store.told (g.S.Store.shown c.args.store.now) (g.S.Store.shown c.args.store.now) names (g.C.Clock.shown c.args.clock.now) (g.C.Clock.shown c.now.new.self) c.args.self.now (record c.args.self.now { ledger = c.end_work.new.ledger }) c.args.set c.args.taken c.args.task.now c.end_work.result c.sign.new.task (returns-in-Failed-clause-puts g c)
+
+pub returns-in-At-clause-reached : goal.returns-in-At-clause-reached
+returns-in-At-clause-reached g c = c.put_at.ensures.reached
+
+pub returns-in-Failed-clause-reached : goal.returns-in-Failed-clause-reached
+returns-in-Failed-clause-reached g c = g.met.S.Store.same c.args.store.now
+
+pub returns-in-At-clause-counted : goal.returns-in-At-clause-counted
+returns-in-At-clause-counted g c = λ names.
+    told_counts (g.S.Store.shown c.args.store.now) (g.S.Store.shown c.put_at.new.store) names (g.C.Clock.shown c.args.clock.now) (g.C.Clock.shown c.now.new.self) c.now.result
+    (g.met.S.Store.counted c.args.store.now c.put_at.new.store c.put_at.ensures.reached) c.now.ensures.tells
+
+pub returns-in-Failed-clause-counted : goal.returns-in-Failed-clause-counted
+returns-in-Failed-clause-counted g c = λ names.
+    told_counts (g.S.Store.shown c.args.store.now) (g.S.Store.shown c.args.store.now) names (g.C.Clock.shown c.args.clock.now) (g.C.Clock.shown c.now.new.self) c.now.result
+    (g.met.S.Store.counted c.args.store.now c.args.store.now (g.met.S.Store.same c.args.store.now)) c.now.ensures.tells

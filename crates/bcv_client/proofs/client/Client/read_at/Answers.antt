@@ -38,3 +38,9 @@ returns-in-None-clause-client g c = c.requires.client
 pub returns-in-None-clause-reads : goal.returns-in-None-clause-reads
 returns-in-None-clause-reads g c =
     range_none g.D.Disk.told g.D.Disk.shown g.S.Store.told (g.S.Store.shown c.args.store.now) c.args.self.now c.args.txn c.args.off c.args.len c.clear.new.self.items (sym c.in-None.is ∙ c.span_of.ensures.span) c.clear.ensures.items
+
+pub returns-in-Some-clause-reached : goal.returns-in-Some-clause-reached
+returns-in-Some-clause-reached g c = c.read_pieces-tried.ensures.reached
+
+pub returns-in-None-clause-reached : goal.returns-in-None-clause-reached
+returns-in-None-clause-reached g c = g.met.S.Store.same c.args.store.now

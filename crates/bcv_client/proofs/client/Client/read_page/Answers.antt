@@ -36,6 +36,7 @@ returns-in-Task-clause-reads g c =
 
 pub returns-in_default : goal.returns-in_default
 returns-in_default g c = record {
+  reached = g.met.S.Store.same c.args.store.now;
   client = record {
     form = c.read.ensures.form;
     read = read_still c.args.self.now.seen _ c.args.self.now.latest _ c.read.ensures.only.seen c.read.ensures.only.latest c.requires.client.read;
@@ -44,3 +45,6 @@ returns-in_default g c = record {
       page_at_once g.D.Disk.told g.D.Disk.shown g.S.Store.told (g.S.Store.shown c.args.store.now) c.args.self.now c.read.new.self c.args.txn c.args.page c.read.result c.is_full.ensures.are_open c.read.ensures.only
       c.read.ensures.asks c.read.ensures.machine (not_task c.read.result c.in_default.not-Task);
 }
+
+pub returns-in-Task-clause-reached : goal.returns-in-Task-clause-reached
+returns-in-Task-clause-reached g c = c.read_step.ensures.reached

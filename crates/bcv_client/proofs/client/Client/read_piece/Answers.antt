@@ -26,6 +26,7 @@ returns-in-Page-clause-reads g c = record {
 
 pub returns : goal.returns
 returns g c = record {
+  reached = c.read_page.ensures.reached;
   client = c.read_page.ensures.client;
   reads = record {
     replied = c.read_page.result;
@@ -33,3 +34,9 @@ returns g c = record {
     ends = not_page c.args.piece.now c.read_page.result c.args.into.now.items c.args.into.now.items c.in_default.not-Page;
   };
 }
+
+pub returns-in-Ok-clause-reached : goal.returns-in-Ok-clause-reached
+returns-in-Ok-clause-reached g c = c.read_page.ensures.reached
+
+pub returns-in-Page-clause-reached : goal.returns-in-Page-clause-reached
+returns-in-Page-clause-reached g c = c.read_page.ensures.reached

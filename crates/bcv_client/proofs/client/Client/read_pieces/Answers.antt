@@ -8,6 +8,7 @@ pieces_are_the_range-requires g c = c.requires.size
 
 pub loop-i-init : goal.loop-i-init
 loop-i-init g c = record {
+  reached = g.met.S.Store.same c.args.store.now;
   client = c.requires.client;
   read = pieces_none g.D.Disk.told g.D.Disk.shown g.S.Store.told (g.S.Store.shown c.args.store.now) c.args.self.now c.args.txn c.args.into.now.items c.requires.empty;
 }
@@ -40,6 +41,7 @@ pub loop-i-preserved : goal.loop-i-preserved
 loop-i-preserved g c =
     let at : slice_get (pieces_of c.args.span.now) c.loop-i.i ≡ Some c.in-Some.piece = sym c.piece.ensures.exact ∙ c.in-Some.is in
     record {
+      reached = g.met.S.Store.through c.args.store.now c.loop-i.store c.read_piece.new.store c.loop-i.invariant.reached c.read_piece.ensures.reached;
       client = c.read_piece.ensures.client;
       read =
           pieces_more g.D.Disk.told g.D.Disk.shown g.S.Store.told (g.S.Store.shown c.args.store.now) (g.S.Store.shown c.loop-i.store) (g.S.Store.shown c.read_piece.new.store) c.args.self.now c.loop-i.self
@@ -57,3 +59,12 @@ returns-clause-tried g c =
     let all : length (pieces_of c.args.span.now) ≤ c.loop-i.i = omega (arith, few, past) in
     pieces_all g.D.Disk.told g.D.Disk.shown g.S.Store.told (g.S.Store.shown c.args.store.now) (g.S.Store.shown c.loop-i.store) c.args.self.now c.loop-i.self c.args.txn c.loop-i.i (pieces_of c.args.span.now)
     c.loop-i.into.items all c.loop-i.invariant.read
+
+pub returns-in_default-clause-reached : goal.returns-in_default-clause-reached
+returns-in_default-clause-reached g c = c.loop-i.invariant.reached
+
+pub returns-in-Err-clause-reached : goal.returns-in-Err-clause-reached
+returns-in-Err-clause-reached g c = g.met.S.Store.through c.args.store.now c.loop-i.store c.read_piece.new.store c.loop-i.invariant.reached c.read_piece.ensures.reached
+
+pub returns-clause-reached : goal.returns-clause-reached
+returns-clause-reached g c = c.loop-i.invariant.reached

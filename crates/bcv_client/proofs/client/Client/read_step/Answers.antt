@@ -35,3 +35,6 @@ returns-clause-reads g c =
     let both = taken_read c.args.self.now c.take_task.new.self c.args.task c.args.txn c.args.page c.requires.task c.in-Ok.job (rw c.in-Ok.is at c.take_task.ensures.takes) in
     step_reads g.D.Disk.told g.D.Disk.shown g.S.Store.told (g.S.Store.shown c.args.store.now) (g.S.Store.shown c.fetch.new.store) c.args.self.now c.take_task.new.self c.fetch.new.self c.args.task c.args.txn
     c.args.page c.fetch.result c.is_full.ensures.are_open both c.fetch.ensures.fetches c.fetch.ensures.ends c.fetch.ensures.falls
+
+pub returns-clause-reached : goal.returns-clause-reached
+returns-clause-reached g c = c.fetch.ensures.reached

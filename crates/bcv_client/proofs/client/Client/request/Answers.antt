@@ -66,3 +66,12 @@ returns-in-Cleanup-clause-asks g c =
     (cleanup_asks (goal.F-post g c.args.rule.now.rule) g.S.Store.told (g.S.Store.shown c.args.store.now) (g.S.Store.shown c.work-in-Cleanup.new.store) (g.N.Names.shown c.args.names.now) (g.N.Names.shown c.args.names.now) (g.C.Clock.shown c.args.clock.now) (g.C.Clock.shown c.work-in-Cleanup.new.clock)
     c.args.self.now.seen c.args.self.now.ledger.databases c.args.set c.args.self.now.txns c.in-Cleanup.field-0 c.work-in-Cleanup.result c.in-Cleanup.cleanup c.work-in-Cleanup.new.self
     (subst (λ (t : PublishTask). is_ready t ≡ false) c.in-Cleanup.is c.requires.not_ready) (subst IsRunning c.in-Cleanup.is c.requires.running).0 c.work-in-Cleanup.ensures.leaves c.work-in-Cleanup.ensures.works c.work-in-Cleanup.ensures.running)
+
+pub returns-in-Copy-clause-reached : goal.returns-in-Copy-clause-reached
+returns-in-Copy-clause-reached g c = c.work.ensures.reached
+
+pub returns-in-Some-clause-reached : goal.returns-in-Some-clause-reached
+returns-in-Some-clause-reached g c = c.upload.ensures.reached
+
+pub returns-in-Cleanup-clause-reached : goal.returns-in-Cleanup-clause-reached
+returns-in-Cleanup-clause-reached g c = c.work-in-Cleanup.ensures.reached

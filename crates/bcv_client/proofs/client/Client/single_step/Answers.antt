@@ -163,3 +163,12 @@ pub returns-in-Resolve-clause-caches : goal.returns-in-Resolve-clause-caches
 returns-in-Resolve-clause-caches g c =
     job_as g.S.Store.told (g.S.Store.shown c.args.store.now) (g.S.Store.shown c.resolve.new.store) c.args.self.now.ledger.databases c.args.self.now.txns c.resolve.new.self.txns _ _ c.resolve.result c.in-Resolve.is
     c.resolve.ensures.only.writes.txns
+
+pub returns-in-Fetch-clause-reached : goal.returns-in-Fetch-clause-reached
+returns-in-Fetch-clause-reached g c = c.fetch.ensures.reached
+
+pub returns-in-Poll-clause-reached : goal.returns-in-Poll-clause-reached
+returns-in-Poll-clause-reached g c = c.poll.ensures.reached
+
+pub returns-in-Resolve-clause-reached : goal.returns-in-Resolve-clause-reached
+returns-in-Resolve-clause-reached g c = c.resolve.ensures.reached

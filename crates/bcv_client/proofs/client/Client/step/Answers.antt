@@ -12,6 +12,7 @@ use Rattle.bcv_client.proofs.FallsCalls.{publication_falls, single_falls, unmove
 use Rattle.bcv_client.proofs.CallMoments.{publication_moments, single_moments, unmoved_step}
 use Rattle.bcv_client.proofs.Descent.{publication_descends, quiet_step, refused_descends}
 use Rattle.bcv_client.proofs.Caching.{refused_caches, step_caches}
+use Rattle.bcv_client.proofs.CountsOn.{counts_asked, counts_still}
 use Rattle.bcv_client.proofs.client.Client.step.Goals as goal
 
 pub take_task-requires : goal.take_task-requires
@@ -98,6 +99,8 @@ returns-in_default g c =
     let only = taken_only c.args.self.now c.take_task.new.self c.args.number c.take_task.result c.take_task.ensures.takes in
     let takes : TaskOut c.args.self.now c.take_task.new.self c.args.number c.in-Ok.job × CanStep c.take_task.new.self c.in-Ok.job = rw c.in-Ok.is at c.take_task.ensures.takes in
     record {
+      reached = c.single_step.ensures.reached;
+      counted = counts_asked (g.S.Store.shown c.args.outside.now.store) (g.S.Store.shown c.single_step.new.store) (g.N.Names.shown c.args.outside.now.names) (g.C.Clock.shown c.args.outside.now.clock) (g.met.S.Store.counted c.args.outside.now.store c.single_step.new.store c.single_step.ensures.reached);
       client = record { form = c.single_step.ensures.form; read = c.single_step.ensures.read };
       same = record {
         id = c.single_step.ensures.only.id ∙ only.id;
@@ -204,3 +207,15 @@ returns-in-Publish-clause-caches g c =
     subst (λ (x : Job). TaskOut c.args.self.now c.take_task.new.self c.args.number x × CanStep c.take_task.new.self x) c.in-Publish.is found in
     step_caches g.S.Store.told (g.S.Store.shown c.args.outside.now.store) (g.S.Store.shown c.publication.new.outside.store) c.args.self.now c.take_task.new.self c.publication.new.self.txns
     c.args.number j c.publication.result takes.0 c.publication.ensures.caches
+
+pub returns-in-Err-clause-reached : goal.returns-in-Err-clause-reached
+returns-in-Err-clause-reached g c = g.met.S.Store.same c.args.outside.now.store
+
+pub returns-in-Publish-clause-reached : goal.returns-in-Publish-clause-reached
+returns-in-Publish-clause-reached g c = c.publication.ensures.reached
+
+pub returns-in-Err-clause-counted : goal.returns-in-Err-clause-counted
+returns-in-Err-clause-counted g c = counts_still (g.S.Store.shown c.args.outside.now.store) (g.N.Names.shown c.args.outside.now.names) (g.C.Clock.shown c.args.outside.now.clock)
+
+pub returns-in-Publish-clause-counted : goal.returns-in-Publish-clause-counted
+returns-in-Publish-clause-counted g c = c.publication.ensures.counted

@@ -7,6 +7,7 @@ use Rattle.bcv_client.proofs.BusyTasks.{busy_jobs}
 use Rattle.bcv_client.proofs.WorkForm.{work_goes_on, work_keeps_form}
 use Rattle.bcv_client.proofs.WorkOver.{only_then, reads_then, sees_then, steps_task, still_open, works_then}
 use Rattle.bcv_client.proofs.FallsSteps.{work_falls}
+use Rattle.bcv_client.proofs.CountsOn.{work_counts}
 use Rattle.bcv_client.proofs.client.Client.work_task.Goals as goal
 
 pub request-work-requires-clause-view : goal.request-work-requires-clause-view
@@ -79,3 +80,11 @@ pub returns-clause-causes : goal.returns-clause-causes
 returns-clause-causes g c =
     work_causes g.D.Disk.told g.D.Disk.shown g.S.Store.told (g.S.Store.shown c.args.outside.now.store) (g.S.Store.shown c.request-work.new.store) (goal.F-post g c.args.rule.now.rule) (g.N.Names.shown c.args.outside.now.names) (g.N.Names.shown c.request-work.new.names) (g.C.Clock.shown c.args.outside.now.clock) (g.C.Clock.shown c.request-work.new.clock)
     c.args.self.now (record c.request-work.new.self { ledger = c.end_work.new.ledger }) c.args.set c.args.task.now c.end_work.result c.request-work.new.task (returns-clause-works g c)
+
+pub returns-clause-reached : goal.returns-clause-reached
+returns-clause-reached g c = c.request-work.ensures.reached
+
+pub returns-clause-counted : goal.returns-clause-counted
+returns-clause-counted g c =
+    work_counts g.D.Disk.told g.D.Disk.shown (goal.F-post g c.args.rule.now.rule) g.S.Store.told (g.S.Store.shown c.args.outside.now.store) (g.S.Store.shown c.request-work.new.store) (g.N.Names.shown c.args.outside.now.names) (g.N.Names.shown c.request-work.new.names) (g.C.Clock.shown c.args.outside.now.clock) (g.C.Clock.shown c.request-work.new.clock)
+    c.args.self.now (record c.request-work.new.self { ledger = c.end_work.new.ledger }) c.args.set c.args.task.now c.end_work.result c.request-work.new.task (g.met.S.Store.counted c.args.outside.now.store c.request-work.new.store c.request-work.ensures.reached) (returns-clause-works g c)
