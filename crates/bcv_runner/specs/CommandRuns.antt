@@ -14,6 +14,7 @@ use Rattle.bcv_risen.specs.declared.risen.RiseFault.{RiseFault}
 use Rattle.bcv_store.specs.StoreShown.{StoreTold}
 use Rattle.bcv_runner.specs.CommandAsks.{Around, point_of}
 use Rattle.bcv_runner.specs.CommandTalks.{EndsTalk}
+use Rattle.bcv_runner.specs.MachineRuns.{IsMachineRun}
 use Rattle.bcv_runner.specs.Endings.{Outputs, up_ending}
 use Rattle.bcv_runner.specs.Operations.{Prepares}
 use Rattle.bcv_runner.specs.declared.ending.Ending.{Ending}
@@ -42,6 +43,8 @@ pub record AsksThenDown {D : Type 0} {g : _} (told : DiskTold) (shown : D → Di
   pub end : Client D g
   pub talk : EndsTalk told shown store o e (point_of start before) (point_of end after)
   pub down : HandsBack shown end back
+  pub machine :
+      IsMachineRun told shown store (point_of start before) talk.exchanges (point_of end after) talk.talks back
 
 -- a client comes up, is asked, and goes down
 pub record AsksClient {D : Type 0} (g : _) (told : DiskTold) (shown : D → DiskShown) (store : StoreTold) (o : Operation) (disk : D)

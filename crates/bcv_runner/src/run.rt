@@ -22,6 +22,7 @@ use bcv_disk::Disk;
 use bcv_keeprule::KeepRule;
 use bcv_model::Ask;
 use bcv_store::Store;
+use bcv_talks::{talks_are_runs, talks_leave_fit};
 use std::alloc::Global;
 
 // How many blocks the client's cache holds.
@@ -136,6 +137,8 @@ fn over_client<S: Store, D: Disk, C: Clock, N: Names, F: Fn(u64, u64, u64) -> bo
     ensures inside { is_clients (status_of result.0) ≡ true }
 {
     let mut client = client;
+    talks_are_runs(&client, &outside.store);
+    talks_leave_fit(&client, &outside.store);
     let ending = run_asks(alloc, &mut client, operation, outside, rule);
     (ending, client.down())
 }
