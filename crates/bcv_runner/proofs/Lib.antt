@@ -1,5 +1,6 @@
 pub mod Causes
-pub mod DiskFaults
+pub mod CommandFaults
+pub mod FaultCounts
 pub mod FileForms
 pub mod ReplyLines
 pub mod TalkJoins

@@ -94,6 +94,12 @@ is_clients status.WriteFault = false
 is_clients status.TooLong = false
 is_clients _ = true
 
+-- the status is a store fault, or that it is not known what became of a publication
+abbrev pub is_store_fault : Status → Bool
+is_store_fault status.StoreFault = true
+is_store_fault (status.Unknown id) = true
+is_store_fault _ = false
+
 -- a fault of the input or of the output is answered only where its count rose, and one of the output wherever it did
 pub record StreamCauses (input_before input_now output_before output_now : ℕ) (s : Status) : Type 0 where
   pub read : s ≡ status.ReadFault → Rose input_before input_now

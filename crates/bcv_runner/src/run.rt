@@ -6,7 +6,7 @@ ghost use Rattle.bcv_keeprule.specs.Retention.{IsKeepRule};
 ghost use Rattle.bcv_runner.specs.CommandAsks.{around, point_of};
 ghost use Rattle.bcv_runner.specs.CommandRuns.{AfterInput, AsksThenDown, CommandRuns, OperationRuns};
 ghost use Rattle.bcv_runner.specs.CommandTalks.{EndsTalk};
-ghost use Rattle.bcv_runner.specs.Endings.{FaultCounted, StreamCauses, is_clients, status_of};
+ghost use Rattle.bcv_runner.specs.Endings.{FaultCounted, StreamCauses, is_clients, is_store_fault, status_of};
 ghost use Rattle.bcv_runner.specs.Operations.{OperationInForm, PreparedInForm, RunsOverClient};
 
 use crate::asks::run_task;
@@ -67,6 +67,12 @@ pub fn run_command<
         (O.faults out.new) result.status }
     ensures disk { FaultCounted (D.shown disk).faults (D.shown result.disk).faults
         (result.status ≡ Status.DiskFault) }
+    ensures store { FaultCounted (S.shown outside.old.store).faults
+        (S.shown outside.new.store).faults (is_store_fault result.status ≡ true) }
+    ensures names { FaultCounted (N.shown outside.old.names).faults
+        (N.shown outside.new.names).faults (result.status ≡ Status.NamesFault) }
+    ensures clock { FaultCounted (C.shown outside.old.clock).faults
+        (C.shown outside.new.clock).faults (result.status ≡ Status.ClockFault) }
     ensures words { result.status ≢ Status.BadWords }
 {
     let prepared = prepare(alloc, command, input);

@@ -1,4 +1,4 @@
-use Rattle.bcv_runner.proofs.DiskFaults.{command_counts}
+use Rattle.bcv_runner.proofs.CommandFaults.{command_counts}
 use Rattle.bcv_runner.proofs.Causes.{not_words, stream_causes}
 use Rattle.bcv_runner.proofs.run.run_command.Goals as goal
 
@@ -31,6 +31,36 @@ returns-clause-words g c =
 
 pub returns-clause-disk : goal.returns-clause-disk
 returns-clause-disk g c =
+    let read = c.prepare-prepared.ensures.read in
     let output = c.write_ending-status.ensures.output in
-    command_counts g.D.Disk g.D.Disk.told g.D.Disk.shown g.S.Store.told c.prepare-prepared.result (g.I.Source.faults c.args.input.now) (g.I.Source.faults c.prepare-prepared.new.input) c.args.disk _ _
-    c.run_prepared-ending.result.0 c.run_prepared-ending.result.1 c.write_ending-status.result output.0 c.prepare-prepared.ensures.causes c.run_prepared-ending.ensures.runs output.2
+    let counts =
+    command_counts g.D.Disk g.D.Disk.told g.D.Disk.shown g.S.Store.told c.args.command.now c.prepare-prepared.result read.0 _ c.args.disk _ _
+    c.run_prepared-ending.result.0 c.run_prepared-ending.result.1 c.write_ending-status.result output.0 read.2 c.run_prepared-ending.ensures.runs output.2 in
+    counts.disk
+
+pub returns-clause-store : goal.returns-clause-store
+returns-clause-store g c =
+    let read = c.prepare-prepared.ensures.read in
+    let output = c.write_ending-status.ensures.output in
+    let counts =
+    command_counts g.D.Disk g.D.Disk.told g.D.Disk.shown g.S.Store.told c.args.command.now c.prepare-prepared.result read.0 _ c.args.disk _ _
+    c.run_prepared-ending.result.0 c.run_prepared-ending.result.1 c.write_ending-status.result output.0 read.2 c.run_prepared-ending.ensures.runs output.2 in
+    counts.store
+
+pub returns-clause-names : goal.returns-clause-names
+returns-clause-names g c =
+    let read = c.prepare-prepared.ensures.read in
+    let output = c.write_ending-status.ensures.output in
+    let counts =
+    command_counts g.D.Disk g.D.Disk.told g.D.Disk.shown g.S.Store.told c.args.command.now c.prepare-prepared.result read.0 _ c.args.disk _ _
+    c.run_prepared-ending.result.0 c.run_prepared-ending.result.1 c.write_ending-status.result output.0 read.2 c.run_prepared-ending.ensures.runs output.2 in
+    counts.names
+
+pub returns-clause-clock : goal.returns-clause-clock
+returns-clause-clock g c =
+    let read = c.prepare-prepared.ensures.read in
+    let output = c.write_ending-status.ensures.output in
+    let counts =
+    command_counts g.D.Disk g.D.Disk.told g.D.Disk.shown g.S.Store.told c.args.command.now c.prepare-prepared.result read.0 _ c.args.disk _ _
+    c.run_prepared-ending.result.0 c.run_prepared-ending.result.1 c.write_ending-status.result output.0 read.2 c.run_prepared-ending.ensures.runs output.2 in
+    counts.clock
