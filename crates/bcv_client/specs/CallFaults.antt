@@ -33,7 +33,8 @@ CallCauses before after names later_names clock later_clock (reply.Unknown id) =
 CallCauses before after names later_names clock later_clock r = WorkCauses before after names later_names clock later_clock r
 
 -- the store, the names and the clock count no fewer faults after a call than before it
-pub record CountsOn (before after : StoreShown) (names later_names : NamesShown) (clock later_clock : ClockShown) : Type 0 where
+pub record CountsOn (before after : StoreShown) (drawn_before drawn_after : NamesShown) (told_before told_after : ClockShown)
+    : Type 0 where
   pub store : before.faults ≤ after.faults
-  pub names : names.faults ≤ later_names.faults
-  pub clock : clock.faults ≤ later_clock.faults
+  pub names : drawn_before.faults ≤ drawn_after.faults
+  pub clock : told_before.faults ≤ told_after.faults

@@ -6,7 +6,8 @@ use Rattle.bcv_disk.specs.DiskShown.{DiskShown, DiskTold}
 use Rattle.bcv_proto.specs.Messages.{IsCut}
 use Rattle.bcv_store.specs.StoreShown.{StoreTold}
 use Rattle.bcv_daemon.specs.Connections.{AreBelow, EndsAll, IsNoFront, RunsOut, Turn, Turns, answers_of, messages_of}
-use Rattle.bcv_client.specs.Talk.{Point}
+use Rattle.bcv_client.specs.Talk.{Exchange, Point, Talks}
+use Rattle.bcv_daemon.specs.MachineRuns.{IsMachineRun, ends_exchanges, turns_exchanges, untold_exchanges}
 use Rattle.bcv_daemon.specs.declared.connection.ServeEnd.{ServeEnd}
 use Rattle.bcv_daemon.specs.declared.connection.ServeEnd.TheVariants as end
 use Rattle.bcv_daemon.specs.declared.sessions.Session.{Session}
@@ -36,6 +37,13 @@ abbrev pub TriesLast : {D : Type 0} {g : _} → DiskTold → (D → DiskShown) �
 TriesLast told shown store a b ss later bytes end.NoMemory = RunsOut told shown store a b ss later bytes
 TriesLast told shown store a b ss later bytes _ = (b ≡ a) × (later ≡ ss)
 
+-- what the client was asked for that message
+abbrev pub tried_exchanges : {D : Type 0} {g : _} (told : DiskTold) (shown : D → DiskShown) (store : StoreTold) (a b : Point D g)
+    (ss later : List Session) (bytes : List ℕ) (e : ServeEnd) → TriesLast told shown store a b ss later bytes e → List Exchange
+tried_exchanges told shown store a b ss later bytes end.NoMemory tries =
+    untold_exchanges told shown store a b ss later bytes tries
+tried_exchanges told shown store a b ss later bytes _ tries = []
+
 -- the messages at the front of the bytes that were taken are answered, and then the transactions of all sessions are ended
 pub record Served {D : Type 0} {g : _} (told : DiskTold) (shown : D → DiskShown) (store : StoreTold) (a b : Point D g)
     (taken written : List ℕ) (AtEnd : Type 0) (e : ServeEnd) : Type 0 where
@@ -52,6 +60,15 @@ pub record Served {D : Type 0} {g : _} (told : DiskTold) (shown : D → DiskShow
   pub left : List Session
   pub tried : TriesLast told shown store mid last sessions left rest e
   pub closed : EndsAll told shown store last left b
+  -- all that the client was asked is one talk, and a run of the machine
+  pub exchanges : List Exchange
+  pub asked :
+      exchanges
+      ≡ turns_exchanges told shown store a [] turns mid sessions answered
+      ++ tried_exchanges told shown store mid last sessions left rest e tried
+      ++ ends_exchanges told shown store last left b closed
+  pub talk : Talks told shown store a exchanges b
+  pub machine : IsMachineRun told shown store a exchanges b talk
 
 -- a fault is answered only where the count of that side rose
 pub record ServeCauses (taken later_taken given later_given : ℕ) (e : ServeEnd) : Type 0 where

@@ -14,6 +14,7 @@ use bcv_client::Client;
 use bcv_disk::Disk;
 use bcv_keeprule::KeepRule;
 use bcv_store::Store;
+use bcv_talks::talks_are_runs;
 use std::alloc::Global;
 
 /// Serves one connection: answers its messages in order until it ends, and then ends the transactions of its sessions. The
@@ -40,6 +41,7 @@ pub fn serve_top<S: Store, D: Disk, C: Clock, N: Names, I: Source, O: Sink>(
     ensures causes { ServeCauses (I.faults input.old) (I.faults input.new) (O.faults out.old)
         (O.faults out.new) result }
 {
+    talks_are_runs(&daemon.client, &outside.store);
     let mut connection = match Connection::new(alloc) {
         Ok(connection) => connection,
         Err(_) => return ServeEnd::NoMemory,

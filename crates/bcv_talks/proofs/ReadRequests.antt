@@ -30,7 +30,7 @@ use Rattle.bcv_talks.specs.ReadRequests.{FetchesWhatIsFar, IsFar, cached, room_f
 -- ---- what came
 
 -- whether there is room for the block, where what came wants one
-room_of : Came → Option Bool
+abbrev pub room_of : Came → Option Bool
 room_of (came.Absent id) = Some true
 room_of came.CacheFull = Some false
 room_of _ = None
@@ -74,29 +74,29 @@ record NotIn (t : OpenTxn) (pages : Held) (c : Blocks) (page : ℕ) (room : Bool
 
 module _ (t : OpenTxn) (pages : Held) (c : Blocks) (page : ℕ) (x : Came) (room : Bool) (wants : room_of x ≡ Some room) where
   read_far : (d : Blocks) (at : Place) → TxnPlaces t.txn (view_in pages t) c page at d → ReadAs t.txn (view_in pages t) page at x d → NotIn t pages c page room
-  read_far d place.BadPage places as = absurd (not_wanted x room (ap room_of as) wants)
-  read_far d place.Local places as = absurd (not_wanted x room (copied x as.0 as.2) wants)
-  read_far d place.Zeros places as = absurd (not_wanted x room (copied x _ as) wants)
-  read_far d (place.Cached slot) places as = absurd (not_wanted x room (copied x as.0 as.2) wants)
-  read_far d (place.Absent id) places as = record {
+  read_far d place.BadPage places does = absurd (not_wanted x room (ap room_of does) wants)
+  read_far d place.Local places does = absurd (not_wanted x room (copied x does.0 does.2) wants)
+  read_far d place.Zeros places does = absurd (not_wanted x room (copied x _ does) wants)
+  read_far d (place.Cached slot) places does = absurd (not_wanted x room (copied x does.0 does.2) wants)
+  read_far d (place.Absent id) places does = record {
     id = id;
     from_base = places.0;
     block = places.1;
     away = places.2;
-    has = ap has_room (sym places.3) ∙ room_is id (has_room d) room (ap room_of (sym as.0) ∙ wants);
+    has = ap has_room (sym places.3) ∙ room_is id (has_room d) room (ap room_of (sym does.0) ∙ wants);
   }
 
   hold_far : (found d : Blocks) (u : Opened) (at : Place) → TxnPlaces t.txn (view_in pages t) c page at found → HeldAs t.txn page at found x u d → NotIn t pages c page room
-  hold_far found d u place.BadPage places as = absurd (not_wanted x room (ap room_of as.0) wants)
-  hold_far found d u place.Local places as = absurd (not_wanted x room (ap room_of as.0) wants)
-  hold_far found d u place.Zeros places as = absurd (not_wanted x room (ap room_of as.0) wants)
-  hold_far found d u (place.Cached slot) places as = absurd (not_wanted x room (held t.txn found page slot x u d as) wants)
-  hold_far found d u (place.Absent id) places as = record {
+  hold_far found d u place.BadPage places does = absurd (not_wanted x room (ap room_of does.0) wants)
+  hold_far found d u place.Local places does = absurd (not_wanted x room (ap room_of does.0) wants)
+  hold_far found d u place.Zeros places does = absurd (not_wanted x room (ap room_of does.0) wants)
+  hold_far found d u (place.Cached slot) places does = absurd (not_wanted x room (held t.txn found page slot x u d does) wants)
+  hold_far found d u (place.Absent id) places does = record {
     id = id;
     from_base = places.0;
     block = places.1;
     away = places.2;
-    has = ap has_room (sym places.3) ∙ room_is id (has_room found) room (ap room_of (sym as.0.0) ∙ wants);
+    has = ap has_room (sym places.3) ∙ room_is id (has_room found) room (ap room_of (sym does.0.0) ∙ wants);
   }
 
 -- ---- the page of a number's transaction

@@ -954,27 +954,27 @@ pub returns-in-Resolve-clause-counted : goal.returns-in-Resolve-clause-counted
 returns-in-Resolve-clause-counted g c = counts_still (g.S.Store.shown c.args.outside.now.store) (g.N.Names.shown c.args.outside.now.names) (g.C.Clock.shown c.args.outside.now.clock)
 
 pub returns-in-Create-clause-counted : goal.returns-in-Create-clause-counted
-returns-in-Create-clause-counted g c = 
+returns-in-Create-clause-counted g c =
     starts_count (g.S.Store.shown c.args.outside.now.store) (g.C.Clock.shown c.args.outside.now.clock) (g.N.Names.shown c.args.outside.now.names) (g.N.Names.shown c.start_create.new.names) c.args.self.now c.start_create.new.self _ c.start_create.result c.start_create.ensures.starts
 
 pub returns-in-NewDb-clause-counted : goal.returns-in-NewDb-clause-counted
-returns-in-NewDb-clause-counted g c = 
+returns-in-NewDb-clause-counted g c =
     starts_count (g.S.Store.shown c.args.outside.now.store) (g.C.Clock.shown c.args.outside.now.clock) (g.N.Names.shown c.args.outside.now.names) (g.N.Names.shown c.start_copy.new.names) c.args.self.now c.start_copy.new.self _ c.start_copy.result c.start_copy.ensures.starts
 
 pub returns-in-Upload-clause-counted : goal.returns-in-Upload-clause-counted
-returns-in-Upload-clause-counted g c = 
+returns-in-Upload-clause-counted g c =
     starts_count (g.S.Store.shown c.args.outside.now.store) (g.C.Clock.shown c.args.outside.now.clock) (g.N.Names.shown c.args.outside.now.names) (g.N.Names.shown c.start_upload.new.names) c.args.self.now c.start_upload.new.self _ c.start_upload.result c.start_upload.ensures.starts
 
 pub returns-in-Copy-clause-counted : goal.returns-in-Copy-clause-counted
-returns-in-Copy-clause-counted g c = 
+returns-in-Copy-clause-counted g c =
     starts_count (g.S.Store.shown c.args.outside.now.store) (g.C.Clock.shown c.args.outside.now.clock) (g.N.Names.shown c.args.outside.now.names) (g.N.Names.shown c.start_copy-in-Copy.new.names) c.args.self.now c.start_copy-in-Copy.new.self _ c.start_copy-in-Copy.result c.start_copy-in-Copy.ensures.starts
 
 pub returns-in-Remove-clause-counted : goal.returns-in-Remove-clause-counted
-returns-in-Remove-clause-counted g c = 
+returns-in-Remove-clause-counted g c =
     starts_count (g.S.Store.shown c.args.outside.now.store) (g.C.Clock.shown c.args.outside.now.clock) (g.N.Names.shown c.args.outside.now.names) (g.N.Names.shown c.start_copy-in-Remove.new.names) c.args.self.now c.start_copy-in-Remove.new.self _ c.start_copy-in-Remove.result c.start_copy-in-Remove.ensures.starts
 
 pub returns-in-Cleanup-clause-counted : goal.returns-in-Cleanup-clause-counted
-returns-in-Cleanup-clause-counted g c = 
+returns-in-Cleanup-clause-counted g c =
     starts_count (g.S.Store.shown c.args.outside.now.store) (g.C.Clock.shown c.args.outside.now.clock) (g.N.Names.shown c.args.outside.now.names) (g.N.Names.shown c.start_cleanup.new.names) c.args.self.now c.start_cleanup.new.self _ c.start_cleanup.result c.start_cleanup.ensures.starts
 
 pub returns-in-Step-clause-counted : goal.returns-in-Step-clause-counted
