@@ -53,6 +53,10 @@ resolved : (f g : Faults) (id : Id16) (found : Reply) → RoseBy f g found → R
 resolved f g id reply.StoreFault rose = rose
 resolved f g id _ rose = rose
 
+-- a range is refused with this reply
+refused_by : (f h : Faults) (r x : Reply) → read_at.Refused r ≡ read_at.Refused x → RoseBy f h x → RoseBy f h r
+refused_by f h r x is rose = let same : r ≡ x = cc in subst (λ (y : Reply). RoseBy f h y) (sym same) rose
+
 -- ---- the output and the input
 
 cut_off : (f g : Faults) (s : Status) (text written : List ℕ) → IsCutOff s text written → RoseFor f g s
@@ -229,9 +233,6 @@ module _ {D : Type 0} {g : Ghosts D} (told : DiskTold) (shown : D → DiskShown)
         (is ∙ ap (λ (xs : List Exchange). came ++ xs) two.2
         ∙ sym (append_assoc came (exchange (ask.Read txn page) (reply.Task two.0 two.1) ∷ []) (exchange (ask.Step two.0) r ∷ []))) talk)
   ]
-
-  refused_by : (f h : Faults) (r x : Reply) → read_at.Refused r ≡ read_at.Refused x → RoseBy f h x → RoseBy f h r
-  refused_by f h r x is rose = let same : r ≡ x = cc in subst (λ (y : Reply). RoseBy f h y) (sym same) rose
 
   by_range : (o : Option Span) (txn : ℕ) (first : List Exchange) (into : List ℕ) (r : Reply) (a mid : Point D g) → RangeOf o txn first into (read_at.Refused r)
       → Talks told shown store a first mid → RoseBy (faults_at shown a) (faults_at shown mid) r
