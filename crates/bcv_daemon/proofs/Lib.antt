@@ -1,3 +1,4 @@
+pub mod AnswerCauses
 pub mod Asked
 pub mod Cuts
 pub mod Ending

@@ -1,5 +1,5 @@
 -- Answers of messages, out of the calls that were made for them.
-use Rattle.std.proofs.Common.{◌≡◌, ℕ, List, [], ◌∷◌, inl, inr, refl, sym, subst, ap, ◌∙◌}
+use Rattle.std.proofs.Common.{◌≡◌, ◌⊎◌, ℕ, List, [], ◌∷◌, inl, inr, refl, sym, subst, ap, ◌∙◌}
 use Rattle.std.specs.Prelude.{Option, Some, None}
 use Rattle.bcv_disk.specs.DiskShown.{DiskShown, DiskTold}
 use Rattle.bcv_model.specs.declared.ask.Ask.{Ask}
@@ -17,11 +17,12 @@ use Rattle.bcv_client.specs.declared.client.Client.{Client}
 use Rattle.bcv_daemon.specs.Connections.{AskedOver, ReadsOver}
 use Rattle.bcv_client.specs.RangeAsks.{exchange}
 use Rattle.bcv_client.specs.RangeReads.{RangeReads, point}
-use Rattle.bcv_daemon.specs.Responses.{Answered, AskedToEnd, Begins, Begun, Ends, InSession, Reads, Responds, fine_answer, range_answer}
+use Rattle.bcv_daemon.specs.Responses.{Answered, AskedToEnd, Begins, Begun, Ends, InSession, Reads, Responds, Unasked, fine_answer, range_answer}
 use Rattle.bcv_daemon.specs.Sessions.{txn_of, without}
-use Rattle.bcv_client.specs.Talk.{Exchange, Exchanged, Point}
+use Rattle.bcv_client.specs.Talk.{Exchange, Exchanged, Point, Talks}
 use Rattle.bcv_client.specs.declared.byte_ranges.ReadAt.{ReadAt}
 use Rattle.bcv_daemon.specs.declared.sessions.Session.{Session}
+use Rattle.bcv_daemon.proofs.AnswerCauses.{is_caused}
 use Rattle.bcv_daemon.proofs.Asked.{one_call}
 
 pub in_session : (o : Option ℕ) (txn : ℕ) (es : List Exchange) (Asks : ℕ → Type 0) (given : Answer) → o ≡ Some txn → Asks txn → InSession o es Asks given
@@ -51,28 +52,30 @@ begun_no new ss later n (reply.Txn txn) e h = absurd (h txn refl)
 begun_no new ss later n _ e h = (e, refl)
 
 module _ {D : Type 0} {g : _} (told : DiskTold) (shown : D → DiskShown) (store : StoreTold) where
+  answered : (a b : Point D g) (ss later : List Session) (m : Message) (given : Answer) (es : List Exchange) → Talks told shown store a es b
+      → Responds a.client b.client ss later m es given ⊎ Unasked ss later es given → Answered told shown store a b ss later m given
+  answered a b ss later m given es talk x =
+      record { exchanges = es; talk = talk; responds = x; caused = is_caused told shown store m a b ss later es given x talk }
+
   -- one call was made
   pub called : (a b : Point D g) (ss later : List Session) (m : Message) (given : Answer) (q : Ask) (r : Reply) → Exchanged told shown store a (exchange q r) b
       → Responds a.client b.client ss later m (exchange q r ∷ []) given → Answered told shown store a b ss later m given
-  called a b ss later m given q r call x = record {
-    exchanges = exchange q r ∷ [];
-    talk = one_call told shown store a b (exchange q r) call;
-    responds = inl x;
-  }
+  called a b ss later m given q r call x =
+      answered a b ss later m given (exchange q r ∷ []) (one_call told shown store a b (exchange q r) call) (inl x)
 
   -- an ask was made to its end
   pub to_end : (a b : Point D g) (ss later : List Session) (m : Message) (given : Answer) (q : Ask) (r : Reply) → AskedOver told shown store a b q r
       → ((es : List Exchange) → AskedToEnd q es r → Responds a.client b.client ss later m es given) → Answered told shown store a b ss later m given
-  to_end a b ss later m given q r x f = record { exchanges = x.exchanges; talk = x.talk; responds = inl (f x.exchanges x.asked) }
+  to_end a b ss later m given q r x f = answered a b ss later m given x.exchanges x.talk (inl (f x.exchanges x.asked))
 
   -- nobody was asked
   pub unasked : (a : Point D g) (ss later : List Session) (m : Message) (given : Answer) → Responds a.client a.client ss later m [] given
       → Answered told shown store a a ss later m given
-  unasked a ss later m given x = record { exchanges = []; talk = refl; responds = inl x }
+  unasked a ss later m given x = answered a a ss later m given [] refl (inl x)
 
   -- memory was missing before anybody was asked
   pub begins_without : (a : Point D g) (ss later : List Session) (m : Message) → later ≡ ss → Answered told shown store a a ss later m (answer.Refused reply.NoMemory)
-  begins_without a ss later m e = record { exchanges = []; talk = refl; responds = inr (refl, e, refl) }
+  begins_without a ss later m e = answered a a ss later m (answer.Refused reply.NoMemory) [] refl (inr (refl, e, refl))
 
   -- a session without a transaction was asked to begin one
   pub begun : (a b : Point D g) (ss later : List Session) (n : ℕ) (db : _) (given : Answer) (r : Reply) → txn_of ss n ≡ None
@@ -94,8 +97,6 @@ module _ {D : Type 0} {g : _} (told : DiskTold) (shown : D → DiskShown) (store
 
   pub read_answered : (a b : Point D g) (ss : List Session) (n off len txn : ℕ) (given : Answer) → txn_of ss n ≡ Some txn
       → ReadsOver told shown store a b txn off len given → Answered told shown store a b ss ss (message.Read n off len) given
-  read_answered a b ss n off len txn given e x = record {
-    exchanges = x.exchanges;
-    talk = x.talk;
-    responds = inl (refl, in_session (txn_of ss n) txn x.exchanges (λ t. Reads a.client off len t x.exchanges given) given e x.reads);
-  }
+  read_answered a b ss n off len txn given e x =
+      answered a b ss ss (message.Read n off len) given x.exchanges x.talk
+      (inl (refl, in_session (txn_of ss n) txn x.exchanges (λ t. Reads a.client off len t x.exchanges given) given e x.reads))

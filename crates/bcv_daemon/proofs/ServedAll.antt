@@ -8,6 +8,7 @@ use Rattle.bcv_daemon.specs.Connections.{AreBelow, EndsAll, IsFresh, Serves, Ser
 use Rattle.bcv_talks.specs.TalkRuns.{TalksAreRuns}
 use Rattle.bcv_daemon.specs.MachineRuns.{ends_exchanges, turns_exchanges}
 use Rattle.bcv_daemon.specs.Served.{EndsSo, IsWithin, Served, ServedOn, ServedOne, TriesLast, tried_exchanges}
+use Rattle.bcv_daemon.proofs.AnswerCauses.{disk_counts, talk_counts}
 use Rattle.bcv_daemon.proofs.TalkWhole.{ends_talk, joined, tried_talk, turns_talk}
 use Rattle.bcv_daemon.specs.declared.connection.Connection.{Connection}
 use Rattle.bcv_daemon.specs.declared.connection.ServeEnd.{ServeEnd}
@@ -63,6 +64,8 @@ module _ {D : Type 0} {g : _} (told : DiskTold) (shown : D → DiskShown) (store
         asked = refl;
         talk = talk;
         machine = λ mine used moment f tells disk_tells stands honest new. law a d (first ++ (next ++ last)) talk mine used moment f refl tells disk_tells stands honest new;
+        counted = talk_counts told shown store (first ++ (next ++ last)) a d talk;
+        disk = disk_counts told shown store (first ++ (next ++ last)) a d talk;
       }
 
   pub served : (a b d : Point D g) (old new : Connection) (taken written : List ℕ) (AtEnd : Type 0) (e : ServeEnd) → IsFresh old
@@ -109,6 +112,8 @@ module _ {D : Type 0} {g : _} (told : DiskTold) (shown : D → DiskShown) (store
     asked = refl;
     talk = refl;
     machine = λ mine used moment f tells disk_tells stands honest new. law a a [] refl mine used moment f refl tells disk_tells stands honest new;
+    counted = talk_counts told shown store [] a a refl;
+    disk = disk_counts told shown store [] a a refl;
   }
 
   -- one connection more is served

@@ -1,5 +1,8 @@
 -- What a message asks of the client, and what it is answered.
 use Rattle.std.specs.Prelude.{◌≡◌, ◌⊎◌, ◌+◌, ℕ, Bool, true, false, cond, nat_le, List, [], ◌∷◌, ◌++◌, length, take, Option, Some, None, option_map}
+use Rattle.bcv_base.specs.Faults.{Rose}
+use Rattle.bcv_client.specs.CallFaults.{CallCauses}
+use Rattle.bcv_clientlog.specs.LogParts.{log_disk}
 use Rattle.bcv_disk.specs.DiskShown.{DiskShown, DiskTold}
 use Rattle.bcv_machine.specs.Step.{is_task}
 use Rattle.bcv_model.specs.declared.ask.Ask.{Ask}
@@ -137,12 +140,29 @@ Responds old new ss later (message.Free n page) es a =
 abbrev pub Unasked : List Session → List Session → List Exchange → Answer → Type 0
 Unasked ss later es given = (es ≡ []) × (later ≡ ss) × (is_no_memory given ≡ true)
 
--- the client was asked as a message says, or memory was missing for that
+-- ---- the causes of an answer
+
+-- how often the disk of the client has failed
+abbrev pub disk_faults : {D : Type 0} {g : _} → (D → DiskShown) → Point D g → ℕ
+disk_faults shown p = (shown (log_disk p.client.ledger.log)).faults
+
+-- a reply says a fault of the disk, the store, the names or the clock only where its count rose
+pub record ReplyCauses {D : Type 0} {g : _} (shown : D → DiskShown) (a b : Point D g) (r : Reply) : Type 0 where
+  pub disk : r ≡ reply.DiskFault → Rose (disk_faults shown a) (disk_faults shown b)
+  pub others : CallCauses a.store b.store a.names b.names a.clock b.clock r
+
+-- so does an answer that refuses with it
+abbrev pub IsCaused : {D : Type 0} {g : _} → (D → DiskShown) → Point D g → Point D g → Answer → Type 0
+IsCaused shown a b (answer.Refused r) = ReplyCauses shown a b r
+IsCaused shown a b _ = Unit {0}
+
+-- the client was asked as a message says, or memory was missing for that; a fault that is answered was counted in these calls
 pub record Answered {D : Type 0} {g : _} (told : DiskTold) (shown : D → DiskShown) (store : StoreTold) (a b : Point D g)
     (ss later : List Session) (m : Message) (given : Answer) : Type 0 where
   pub exchanges : List Exchange
   pub talk : Talks told shown store a exchanges b
   pub responds : Responds a.client b.client ss later m exchanges given ⊎ Unasked ss later exchanges given
+  pub caused : IsCaused shown a b given
 
 -- ---- what is written
 
