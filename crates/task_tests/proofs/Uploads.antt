@@ -59,6 +59,6 @@ pub same_block : (l : Option Latest) (view : List Writes) (s : State) (c : Block
 same_block None view s c = refl
 same_block (Some l) view s c =
     elim (asks_cache s.base view (next_block s) s.fetched) as (λ b. (cond b (record c { entries = found_first (base_id s.base (next_block s)) c.entries }) c).block ≡ c.block) [
-    | true ↦ refl
-    | false ↦ refl
+      | true ↦ refl
+      | false ↦ refl
     ]

@@ -77,9 +77,25 @@ fn rival(alloc: Global, store: &mut MemStore, names: &mut CountNames, round: u8)
     let (from, to) = (DbName::read(b"a")?, DbName::read(b"b")?);
     let id = id_of(round.saturating_add(20));
     if round % 2 == 0 {
-        return publish(alloc, store, names, CopyPlan::Copy { from, to }, id_of(11), id).ok();
+        return publish(
+            alloc,
+            store,
+            names,
+            CopyPlan::Copy { from, to },
+            id_of(11),
+            id,
+        )
+        .ok();
     }
-    publish(alloc, store, names, CopyPlan::Remove { name: to }, id_of(11), id).ok()
+    publish(
+        alloc,
+        store,
+        names,
+        CopyPlan::Remove { name: to },
+        id_of(11),
+        id,
+    )
+    .ok()
 }
 
 // Before each put of the upload another client publishes.
@@ -120,7 +136,14 @@ fn eight_refusals(rt: HostRuntime) -> Result<(), Fail> {
     let base = base_of(alloc, 1)?;
     let mut cache = BlockCache::new(alloc, 2, 1_024)?;
     let mut upload = upload_of(alloc, &base, &pages, id_of(7), id_of(10))?;
-    let end = contended(alloc, &mut upload, &mut store, &mut names, &pages, &mut cache);
+    let end = contended(
+        alloc,
+        &mut upload,
+        &mut store,
+        &mut names,
+        &pages,
+        &mut cache,
+    );
     assert_eq!(rt; end, Ok(PutEnd::Contended([2, 3, 4, 5, 6, 7, 8, 9])));
     assert_eq!(rt; store.version_count(), 10);
     assert_eq!(rt; store.log_len(), 13);

@@ -43,7 +43,12 @@ pub(crate) fn base_of(alloc: Global, to: u64) -> Result<TxnBase, Fail>
 }
 
 /// Adds a commit of a size that writes a page of nines, or none where it is 0.
-pub(crate) fn add_commit(alloc: Global, pages: &mut PageSet, size: u32, page: u32) -> Result<(), Fail>
+pub(crate) fn add_commit(
+    alloc: Global,
+    pages: &mut PageSet,
+    size: u32,
+    page: u32,
+) -> Result<(), Fail>
     requires page_size { pages.old.page_size ≡ 512 }
     requires last { last_of pages.old < 100 }
     ensures page_size { pages.new.page_size ≡ 512 }
@@ -163,7 +168,12 @@ fn published(
 }
 
 // The bytes of a block at these places.
-fn bytes_at(alloc: Global, store: &mut MemStore, id: Id16, places: [usize; 3]) -> Result<[u8; 3], Fail> {
+fn bytes_at(
+    alloc: Global,
+    store: &mut MemStore,
+    id: Id16,
+    places: [usize; 3],
+) -> Result<[u8; 3], Fail> {
     let mut bytes = Vec::new(alloc);
     let got = store.get(alloc, &ObjName::Block(id), None, &mut bytes, 1_024);
     let Got::Found(_) = got else {
@@ -188,7 +198,10 @@ fn an_old_block_that_is_not_cached(rt: HostRuntime) -> Result<(), Fail> {
     let mut cache = BlockCache::new(alloc, 2, 1_024)?;
     let count = published(alloc, &mut store, &mut names, &base, &pages, &mut cache)?;
     assert_eq!(rt; count, 3);
-    assert_eq!(rt; bytes_at(alloc, &mut store, id_of(3), [0, 511, 512])?, [1, 1, 9]);
+    assert_eq!(rt;
+        bytes_at(alloc, &mut store, id_of(3), [0, 511, 512])?,
+        [1, 1, 9]
+    );
     Ok(())
 }
 
@@ -206,7 +219,10 @@ fn an_old_block_that_is_cached(rt: HostRuntime) -> Result<(), Fail> {
     assert!(rt; matches!(came, Fetched::In(_)));
     let count = published(alloc, &mut store, &mut names, &base, &pages, &mut cache)?;
     assert_eq!(rt; count, 2);
-    assert_eq!(rt; bytes_at(alloc, &mut store, id_of(3), [0, 511, 512])?, [1, 1, 9]);
+    assert_eq!(rt;
+        bytes_at(alloc, &mut store, id_of(3), [0, 511, 512])?,
+        [1, 1, 9]
+    );
     Ok(())
 }
 
@@ -222,7 +238,10 @@ fn a_last_block_in_part(rt: HostRuntime) -> Result<(), Fail> {
     let mut cache = BlockCache::new(alloc, 2, 1_024)?;
     let count = published(alloc, &mut store, &mut names, &base, &pages, &mut cache)?;
     assert_eq!(rt; count, 2);
-    assert_eq!(rt; bytes_at(alloc, &mut store, id_of(3), [0, 511, 512])?, [9, 9, 0]);
+    assert_eq!(rt;
+        bytes_at(alloc, &mut store, id_of(3), [0, 511, 512])?,
+        [9, 9, 0]
+    );
     Ok(())
 }
 
@@ -239,8 +258,14 @@ fn a_cut_and_growth(rt: HostRuntime) -> Result<(), Fail> {
     let mut cache = BlockCache::new(alloc, 2, 1_024)?;
     let count = published(alloc, &mut store, &mut names, &base, &pages, &mut cache)?;
     assert_eq!(rt; count, 4);
-    assert_eq!(rt; bytes_at(alloc, &mut store, id_of(3), [511, 512, 1_023])?, [1, 0, 0]);
-    assert_eq!(rt; bytes_at(alloc, &mut store, id_of(4), [511, 512, 1_023])?, [0, 9, 9]);
+    assert_eq!(rt;
+        bytes_at(alloc, &mut store, id_of(3), [511, 512, 1_023])?,
+        [1, 0, 0]
+    );
+    assert_eq!(rt;
+        bytes_at(alloc, &mut store, id_of(4), [511, 512, 1_023])?,
+        [0, 9, 9]
+    );
     let latest = last_manifest(alloc, &mut store)?;
     assert_eq!(rt; latest.manifest.dead.items().len(), 2);
     Ok(())
