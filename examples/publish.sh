@@ -1,33 +1,37 @@
 #!/usr/bin/env bash
-# A publisher's five minutes, over two folders that it makes and removes: each command with what it writes.
-# It wants sqlite3 to make the database.
+# A publisher's five minutes: each line that is typed, with what it writes. It works in a folder of its own, which goes at the
+# end, and wants sqlite3 to make the database. The program is `./run bcvutil`, or the one that BCVUTIL names.
 set -eu
 here=$(cd "$(dirname "${BASH_SOURCE[0]}")" && pwd)
 work=$(mktemp -d)
 trap 'rm -rf "$work"' EXIT
-mkdir "$work/store" "$work/client"
+cd "$work"
 
-util() {
-  "$here/../run" bcvutil "$work/store" "$work/client" "$@" 2>/dev/null
+bcvutil() {
+  if [ -n "${BCVUTIL:-}" ]; then "$BCVUTIL" "$@"; else "$here/../run" bcvutil "$@"; fi
 }
 
-sqlite3 "$work/shop.db" 'pragma page_size=4096; create table item(name, price); insert into item values("tea", 3), ("cake", 5);'
+pairs() {
+  "$here/pairs" "$@"
+}
 
-util create 65536 86400
-util new shop <"$work/shop.db"
-util list
-util read shop 0 15
-echo
-# The page that differs after an update goes in as a commit, by its number and its bytes.
-cp "$work/shop.db" "$work/changed.db"
-sqlite3 "$work/changed.db" 'update item set price = 4 where name = "tea";'
-pages=$(($(stat -c %s "$work/changed.db") / 4096))
-for page in $(seq 1 "$pages"); do
-  old=$(dd if="$work/shop.db" bs=4096 skip=$((page - 1)) count=1 status=none | od -An -v -tx1 | tr -d ' \n')
-  new=$(dd if="$work/changed.db" bs=4096 skip=$((page - 1)) count=1 status=none | od -An -v -tx1 | tr -d ' \n')
-  [ "$old" = "$new" ] || echo "$page=$new"
-done | util commit shop "$pages"
-util upload shop
-util copy shop shop-2
-util cleanup
-util list
+while IFS= read -r line <&3; do
+  echo "\$ $line"
+  eval "$line"
+done 3<<'END'
+mkdir store client reader
+bcvutil store client create 65536 86400
+sqlite3 shop.db "create table item(name, price); insert into item values ('tea', 3), ('cake', 5)"
+bcvutil store client new shop < shop.db
+bcvutil store reader list
+bcvutil store reader read shop 0 16777216 > changed.db
+sqlite3 changed.db "update item set price = 4 where name = 'tea'"
+pairs shop.db changed.db | bcvutil store client commit shop 2
+bcvutil store client list
+bcvutil store client upload shop
+bcvutil store client copy shop shop-2
+bcvutil store client cleanup
+bcvutil store reader list
+bcvutil store reader read shop-2 0 16777216 > copy.db
+sqlite3 copy.db "select * from item"
+END
