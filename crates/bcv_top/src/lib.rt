@@ -17,6 +17,7 @@ ghost use Rattle.bcv_commands.specs.declared.command.Command.{Command};
 ghost use Rattle.bcv_keeprule.specs.Retention.{IsKeepRule};
 ghost use Rattle.bcv_runner.specs.CommandAsks.{around};
 ghost use Rattle.bcv_runner.specs.CommandRuns.{CommandRuns};
+ghost use Rattle.bcv_runner.specs.Endings.{FaultCounted};
 ghost use Rattle.bcv_top.specs.ClientCommands.{RunsAlone, UsesClient, ran_of};
 ghost use Rattle.bcv_top.specs.Commands.{RunsCommand};
 ghost use Rattle.bcv_top.specs.Headline.{HasCauses};
@@ -90,6 +91,8 @@ pub fn bcv_top<
         (IsAtEnd (I.left input.new)) written }
     ensures causes { HasCauses (I.faults input.old) (I.faults input.new)
         (O.faults out.old) (O.faults out.new) result.status }
+    ensures disk { FaultCounted (D.shown disk).faults (D.shown result.disk).faults
+        (result.status ≡ Status.DiskFault) }
 {
     let Some(command) = read_words(words) else {
         return Ended {
