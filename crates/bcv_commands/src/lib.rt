@@ -5,9 +5,9 @@
 #![tactic(auto)]
 
 mod arguments;
+mod block_size;
 mod command;
 mod database_file;
-mod digits;
 mod filling;
 mod pages;
 mod pairs;

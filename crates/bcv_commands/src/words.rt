@@ -4,9 +4,10 @@ ghost use Rattle.bcv_commands.specs.Commands.{alone, command_of, command_words, 
 ghost use Rattle.bcv_commands.specs.declared.command.CommandWord.TheVariants as word;
 
 use crate::arguments::Arguments;
+use crate::block_size::block_size_of;
 use crate::command::{Command, CommandWord};
-use crate::digits::{block_size_of, number_in};
 use bcv_base::DbName;
+use bcv_script::number_in;
 
 // The most bytes that one read asks for.
 const MOST_OF_READ: u64 = 16_777_216;

@@ -3,8 +3,8 @@ use Rattle.std.proofs.Common.{◌≡◌, ◌≢◌, ℕ, ◌≤◌, List, arith}
 use Rattle.std.specs.Prelude.{Option, None, Some}
 use Rattle.bcv_base.specs.Faults.{Rose}
 use Rattle.bcv_world.specs.declared.world.World.{World}
-use Rattle.bcv_top.specs.declared.status.Status.{Status}
-use Rattle.bcv_top.specs.declared.status.Status.TheVariants as status
+use Rattle.bcv_commands.specs.declared.status.Status.{Status}
+use Rattle.bcv_commands.specs.declared.status.Status.TheVariants as status
 use Rattle.bcv_top.specs.Headline.{HasCauses}
 use Rattle.bcv_top.specs.Led.{Ends, SaysLast, end_of}
 
@@ -19,19 +19,14 @@ pub line_end : (s : Status) (n : ℕ) (old new : Option World) (line w : List �
 line_end (status.BadScript at place) n old new line w e = (λ x. cc, λ x. cc)
 line_end status.WriteFault n old new line w e = (λ x. cc, λ x. cc)
 line_end status.NoMemory n old new line w e = (λ x. cc, λ x. cc)
-line_end status.Done n old new line w e = absurd e
-line_end status.BadWords n old new line w e = absurd e
-line_end status.ReadFault n old new line w e = absurd e
-line_end status.TooLong n old new line w e = absurd e
+line_end _ n old new line w e = absurd e
 
 pub last_end : (s : Status) (n : ℕ) (old new : Option World) (line w : List ℕ) → SaysLast s n old new line w → IsLineEnd s
 last_end status.Done n old new line w e = (λ x. cc, λ x. cc)
 last_end (status.BadScript at place) n old new line w e = (λ x. cc, λ x. cc)
 last_end status.WriteFault n old new line w e = (λ x. cc, λ x. cc)
 last_end status.NoMemory n old new line w e = (λ x. cc, λ x. cc)
-last_end status.BadWords n old new line w e = absurd e
-last_end status.ReadFault n old new line w e = absurd e
-last_end status.TooLong n old new line w e = absurd e
+last_end _ n old new line w e = absurd e
 
 pub caused : (ib ie ob om oe : ℕ) (s : Status) → IsLineEnd s → ob ≤ om → (s ≡ status.WriteFault → Rose om oe) → HasCauses ib ie ob oe s
 caused ib ie ob om oe s e h f = record { read = λ x. absurd (e.0 x); write = λ x. rose_since ob om oe h (f x) }

@@ -1,4 +1,5 @@
 pub mod Causes
+pub mod CommandForms
 pub mod Commanded
 pub mod MadeRuns
 pub mod PlayedOn

@@ -27,7 +27,7 @@ use Rattle.bcv_top.specs.declared.draws.LineKind.TheVariants as line
 use Rattle.bcv_top.specs.Generated.{a_byte, a_name, advanced, an_event, asked, below, events_from, generated, generated_spec, line_kind, lined, page_with, up_to}
 use Rattle.bcv_top.specs.declared.output.Wrote.{Wrote}
 use Rattle.bcv_top.specs.declared.output.Wrote.TheVariants as wrote
-use Rattle.bcv_top.specs.declared.status.Status.{Status}
+use Rattle.bcv_commands.specs.declared.status.Status.{Status}
 use Rattle.bcv_top.specs.Led.{PlaysOn, is_no_memory, kept_at}
 use Rattle.bcv_top.specs.MadeRun.{Generates, Playing, PlaysEvent, PlaysMore, RanAll, status_by, summary_text}
 use Rattle.bcv_top.specs.Writing.{Writes}

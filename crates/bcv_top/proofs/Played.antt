@@ -8,8 +8,8 @@ use Rattle.bcv_model.specs.declared.reply.Said.{Said}
 use Rattle.bcv_model.specs.ReplyText.{said_text}
 use Rattle.bcv_model.specs.Script.{world_of, world_at}
 use Rattle.bcv_world.specs.declared.world.World.{World}
-use Rattle.bcv_top.specs.declared.status.Status.{Status}
-use Rattle.bcv_top.specs.declared.status.Status.TheVariants as status
+use Rattle.bcv_commands.specs.declared.status.Status.{Status}
+use Rattle.bcv_commands.specs.declared.status.Status.TheVariants as status
 use Rattle.bcv_lines.specs.Lines.{Splits, IsOpen, IsNext, IsLast, IsLine, AreAll, AreLines, BeginsWith, text_of, most_of_script}
 use Rattle.bcv_lines.specs.Reading.{FitsFront, FitsWhole, PassesLimit}
 use Rattle.bcv_lines.proofs.LineLists.{text_length, lines_few, splits_more, splits_line, is_last}
@@ -80,10 +80,7 @@ stops taken rest line written w lines replies ended old new n status.WriteFault 
   ap (λ (x : List ℕ). x ++ w) t ∙ ap (λ (x : List ℕ). replies_text replies ++ x) e.2,
 )
 stops taken rest line written w lines replies ended old new n status.NoMemory s i all l t c e = (refl, front taken rest line written w lines replies ended old new s all l t e)
-stops taken rest line written w lines replies ended old new n status.Done s i all l t c e = absurd e
-stops taken rest line written w lines replies ended old new n status.BadWords s i all l t c e = absurd e
-stops taken rest line written w lines replies ended old new n status.ReadFault s i all l t c e = absurd e
-stops taken rest line written w lines replies ended old new n status.TooLong s i all l t c e = absurd e
+stops taken rest line written w lines replies ended old new n _ s i all l t c e = absurd e
 
 -- all lines of the input led to what was written
 done : (taken written : List ℕ) (all : List (List ℕ)) (replies : List Said) (ended : Type 0) (w : Option World) → ended → AreAll taken all → Led w all replies → written ≡ replies_text replies → (all ≡ [] → ⊥)
@@ -246,9 +243,7 @@ module _ (ib im ob om : Option (List ℕ)) (w : Option World) (number used : ℕ
   ends_last oe line more new n (status.BadScript at place) end e f long n_is a h = last_ends oe line more new n (status.BadScript at place) end e f long n_is a h
   ends_last oe line more new n status.WriteFault end e f long n_is a h = last_ends oe line more new n status.WriteFault end e f long n_is a h
   ends_last oe line more new n status.NoMemory end e f long n_is a h = last_ends oe line more new n status.NoMemory end e f long n_is a h
-  ends_last oe line more new n status.BadWords end e f long n_is a h = absurd h
-  ends_last oe line more new n status.ReadFault end e f long n_is a h = absurd h
-  ends_last oe line more new n status.TooLong end e f long n_is a h = absurd h
+  ends_last oe line more new n _ end e f long n_is a h = absurd h
 
   pub ends_end : IsAtEnd ie → chunk ++ t ≡ [] → Ended ib ie ob om (end_of w) (kept_at (end_of w) w)
   ends_end end e =

@@ -20,8 +20,8 @@ use Rattle.bcv_script.specs.declared.fault.LineFault.{LineFault}
 use Rattle.bcv_script.specs.declared.fault.LineFault.TheVariants as fault
 use Rattle.bcv_top.specs.declared.output.Wrote.{Wrote}
 use Rattle.bcv_top.specs.declared.output.Wrote.TheVariants as wrote
-use Rattle.bcv_top.specs.declared.status.Status.{Status}
-use Rattle.bcv_top.specs.declared.status.Status.TheVariants as status
+use Rattle.bcv_commands.specs.declared.status.Status.{Status}
+use Rattle.bcv_commands.specs.declared.status.Status.TheVariants as status
 use Rattle.bcv_top.specs.Replay.{Runs, replies_text}
 use Rattle.bcv_top.specs.Writing.{Writes}
 use Rattle.bcv_top.specs.Led.{LedBy, LeadsOn, PlaysOn, Tells, Steps, Ends, Says, SaysLast, First, Answers, is_no_memory, listed, stopped_by, writing_end_of}
@@ -138,7 +138,4 @@ pub last_err : (s : Status) (n : â„•) (old new : Option World) (line w : List â„
 last_err (status.BadScript at place) n old new line w e = e
 last_err status.WriteFault n old new line w e = e
 last_err status.NoMemory n old new line w e = e
-last_err status.Done n old new line w e = absurd e
-last_err status.BadWords n old new line w e = absurd e
-last_err status.ReadFault n old new line w e = absurd e
-last_err status.TooLong n old new line w e = absurd e
+last_err _ n old new line w e = absurd e

@@ -5,8 +5,8 @@ use Rattle.bcv_base.specs.Faults.{Rose}
 use Rattle.bcv_world.specs.declared.world.World.{World}
 use Rattle.bcv_model.specs.declared.reply.Said.{Said}
 use Rattle.bcv_model.specs.ReplyText.{said_text}
-use Rattle.bcv_top.specs.declared.status.Status.{Status}
-use Rattle.bcv_top.specs.declared.status.Status.TheVariants as status
+use Rattle.bcv_commands.specs.declared.status.Status.{Status}
+use Rattle.bcv_commands.specs.declared.status.Status.TheVariants as status
 use Rattle.bcv_lines.specs.Lines.{Splits, IsOpen, IsTooLong, IsNext, AreAll, BeginsWith}
 use Rattle.bcv_top.specs.Replay.{Leads, StopsAt, replies_text}
 
@@ -25,7 +25,6 @@ Replays status.Done world taken ended written =
     × ((first : List ℕ) × (lines : List (List ℕ)) × (replies : List Said)
     × AreAll taken (first ∷ lines) × Leads (first ∷ lines) world replies
     × (written ≡ replies_text replies))
-Replays status.BadWords world taken ended written = ⊥
 -- the lines in front lead to the world and to what was written, and the next one, which isn't too long, is bad at the place
 Replays (status.BadScript number at) world taken ended written =
     (lines : List (List ℕ)) × (rest line : List ℕ) × (replies : List Said)
@@ -46,6 +45,8 @@ Replays status.NoMemory world taken ended written = (world ≡ None) × WritesFr
 Replays status.TooLong world taken ended written =
     (lines : List (List ℕ)) × (rest : List ℕ) × (replies : List Said) × Splits taken lines rest
     × IsTooLong lines rest × Leads lines world replies × (written ≡ replies_text replies)
+-- a replay asks no store, disk, clock or names of the outside
+Replays _ world taken ended written = ⊥
 
 -- a fault of the input or of the output is answered only where its count rose
 pub record HasCauses (input_before input_now output_before output_now : ℕ) (result : Status)

@@ -15,8 +15,8 @@ use Rattle.bcv_script.specs.declared.fault.LineFault.{LineFault}
 use Rattle.bcv_script.specs.declared.fault.LineFault.TheVariants as fault
 use Rattle.bcv_top.specs.declared.output.Wrote.{Wrote}
 use Rattle.bcv_top.specs.declared.output.Wrote.TheVariants as wrote
-use Rattle.bcv_top.specs.declared.status.Status.{Status}
-use Rattle.bcv_top.specs.declared.status.Status.TheVariants as status
+use Rattle.bcv_commands.specs.declared.status.Status.{Status}
+use Rattle.bcv_commands.specs.declared.status.Status.TheVariants as status
 use Rattle.bcv_top.specs.Replay.{IsBad, Plays, Runs, replies_text}
 
 -- ---- a world and what was played in it

@@ -1,4 +1,4 @@
-pub mod Codes
+pub mod ClientCommands
 pub mod Commands
 pub mod Generated
 pub mod Headline

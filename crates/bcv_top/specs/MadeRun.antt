@@ -11,8 +11,8 @@ use Rattle.bcv_model.specs.declared.event.Event.{Event}
 use Rattle.bcv_model.specs.declared.reply.Said.{Said}
 use Rattle.bcv_top.specs.declared.output.Wrote.{Wrote}
 use Rattle.bcv_top.specs.declared.output.Wrote.TheVariants as wrote
-use Rattle.bcv_top.specs.declared.status.Status.{Status}
-use Rattle.bcv_top.specs.declared.status.Status.TheVariants as status
+use Rattle.bcv_commands.specs.declared.status.Status.{Status}
+use Rattle.bcv_commands.specs.declared.status.Status.TheVariants as status
 use Rattle.bcv_top.specs.Generated.{events_from, generated, generated_spec}
 use Rattle.bcv_top.specs.Led.{PlaysOn}
 use Rattle.bcv_top.specs.Replay.{Plays}

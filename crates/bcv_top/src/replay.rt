@@ -7,8 +7,8 @@ ghost use Rattle.bcv_top.specs.Headline.{Replays, HasCauses};
 ghost use Rattle.bcv_top.specs.Led.{IsReady, Steps, Says, SaysLast, First, Answers, end_of, is_no_memory, kept_at, stopped_by, writing_end_of};
 
 use crate::output::{Wrote, write_all};
-use crate::status::Status;
 use bcv_base::{Sink, Source};
+use bcv_commands::Status;
 use bcv_keeprule::KeepRule;
 use bcv_lines::{Lines, Next};
 use bcv_model::Reply;
@@ -33,10 +33,10 @@ impl Replayed {
     {
         match status {
             Status::NoMemory => Replayed {
-                status,
+                status: Status::NoMemory,
                 world: None,
             },
-            _ => Replayed { status, world },
+            status => Replayed { status, world },
         }
     }
 }

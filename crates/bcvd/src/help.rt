@@ -35,9 +35,11 @@ Exit status, with a line on standard error where it is not 0:
    6 out of memory            15 ADDRESS cannot be served
    7 STORE failed
 
-Example, an empty container in memory asked for its last version; it answers `no-container`:
-  bcvd - - 127.0.0.1:7700 &
-  printf '\\0\\0\\0\\5\\1\\0\\0\\0\\0' | nc -N 127.0.0.1 7700 | od -An -tx1c
+Example, a container in a folder that `bcvutil` made, asked for its last version:
+  mkdir store client reader
+  bcvutil store client create 65536 86400
+  bcvd store reader 127.0.0.1:7700 &
+  printf '\\0\\0\\0\\5\\1\\0\\0\\0\\0' | nc -N 127.0.0.1 7700 | od -An -tx1
 ";
 
 /// What `--version` prints.

@@ -1,10 +1,26 @@
 ghost use Rattle.std.specs.Prelude.{◌≡◌, MatchResult};
-ghost use Rattle.bcv_top.specs.Codes.{code_of};
-ghost use Rattle.bcv_top.specs.declared.status.Status.TheVariants.{Done};
-ghost use Rattle.bcvutil.specs.Faults.{ended_as, fault_code, fault_of, unusable_of};
+ghost use Rattle.bcv_commands.specs.StatusCodes.{status_code};
+ghost use Rattle.bcv_commands.specs.declared.status.Status.TheVariants.{Done};
+ghost use Rattle.bcvutil.specs.Faults.{ended_as, fault_code, fault_of, unreadable_of, unusable_of};
 
-use bcv_top::Status;
+use bcv_base::Id16;
+use bcv_commands::{Status, What};
+use bcv_host::OpenFault;
+use std::fmt;
 use thiserror::Error;
+
+/// An id, which is printed as 32 hex digits.
+#[derive(Clone, Copy, Debug)]
+pub struct HexId(pub Id16);
+
+impl fmt::Display for HexId {
+    fn fmt<W: fmt::Write>(&self, f: &mut fmt::Formatter<W>) -> fmt::Result {
+        for digit in self.0.hex() {
+            f.write_char(char::from(digit))?;
+        }
+        Ok(())
+    }
+}
 
 /// Why the program ended with another status than 0.
 #[derive(Debug, Drop, Error)]
@@ -23,8 +39,26 @@ pub enum Fault {
     WriteFault,
     #[error("no memory")]
     NoMemory,
+    #[error("store fault")]
+    StoreFault,
+    #[error("disk fault")]
+    DiskFault,
+    #[error("refused")]
+    Refused,
+    #[error("unknown {0}")]
+    Unknown(HexId),
+    #[error("names fault")]
+    NamesFault,
+    #[error("clock fault")]
+    ClockFault,
     #[error("too long")]
     TooLong,
+    #[error("bad manifest at {0}")]
+    BadManifest(u64),
+    #[error("bad block of {0} bytes")]
+    BadBlock(u64),
+    #[error("bad journal at {0}")]
+    BadJournal(u64),
 }
 
 impl Fault {
@@ -33,14 +67,19 @@ impl Fault {
         ensures { result ≡ fault_code self.now }
     {
         match self {
-            Fault::Store(_) => 7,
-            Fault::Client(_) => 8,
             Fault::BadWords => 2,
             Fault::BadScript { .. } => 3,
             Fault::ReadFault => 4,
             Fault::WriteFault => 5,
             Fault::NoMemory => 6,
+            Fault::Store(_) | Fault::StoreFault => 7,
+            Fault::Client(_) | Fault::DiskFault => 8,
+            Fault::Refused => 9,
+            Fault::Unknown(_) => 10,
+            Fault::NamesFault => 11,
+            Fault::ClockFault => 12,
             Fault::TooLong => 13,
+            Fault::BadManifest(_) | Fault::BadBlock(_) | Fault::BadJournal(_) => 14,
         }
     }
 }
@@ -48,7 +87,7 @@ impl Fault {
 /// The fault that a status stands for, where the command wasn't done: it has the status's code.
 pub fn of(status: Status) -> Result<(), Fault>
     ensures fault { result ≡ fault_of status }
-    ensures code { MatchResult result (λ _. status ≡ Done) (λ f. fault_code f ≡ code_of status) }
+    ensures code { MatchResult result (λ _. status ≡ Done) (λ f. fault_code f ≡ status_code status) }
 {
     match status {
         Status::Done => Ok(()),
@@ -57,7 +96,25 @@ pub fn of(status: Status) -> Result<(), Fault>
         Status::ReadFault => Err(Fault::ReadFault),
         Status::WriteFault => Err(Fault::WriteFault),
         Status::NoMemory => Err(Fault::NoMemory),
+        Status::StoreFault => Err(Fault::StoreFault),
+        Status::DiskFault => Err(Fault::DiskFault),
+        Status::Refused(_) => Err(Fault::Refused),
+        Status::Unknown(id) => Err(Fault::Unknown(HexId(id))),
+        Status::NamesFault => Err(Fault::NamesFault),
+        Status::ClockFault => Err(Fault::ClockFault),
         Status::TooLong => Err(Fault::TooLong),
+        Status::BadStore { what, at } => Err(unreadable(what, at)),
+    }
+}
+
+// The fault of what could not be read.
+fn unreadable(what: What, at: u64) -> Fault
+    ensures { result ≡ unreadable_of what at }
+{
+    match what {
+        What::Manifest => Fault::BadManifest(at),
+        What::Block => Fault::BadBlock(at),
+        What::Journal => Fault::BadJournal(at),
     }
 }
 
@@ -72,20 +129,20 @@ pub fn ended(status: Status, flushed: bool) -> Result<(), Fault>
     }
 }
 
-/// A word that names a folder.
+/// Which of the two folders a word names.
 #[derive(Clone, Copy, Debug, PartialEq, Eq)]
 pub enum Folder {
     Store,
     Client,
 }
 
-/// The first of the words STORE and CLIENT that cannot be used: for now each of them is `-`.
-pub fn unusable(store: &[u8], client: &[u8]) -> Option<Folder>
-    ensures { result ≡ unusable_of store.now client.now }
+/// The fault of a folder's word that could not be used: out of memory names no word.
+pub fn unusable(folder: Folder, fault: OpenFault, word: String) -> Fault
+    ensures { result ≡ unusable_of folder fault word }
 {
-    match (store == b"-".as_slice(), client == b"-".as_slice()) {
-        (false, _) => Some(Folder::Store),
-        (true, false) => Some(Folder::Client),
-        (true, true) => None,
+    match (fault, folder) {
+        (OpenFault::NoMemory, _) => Fault::NoMemory,
+        (_, Folder::Store) => Fault::Store(word),
+        (_, Folder::Client) => Fault::Client(word),
     }
 }

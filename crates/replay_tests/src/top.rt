@@ -1,8 +1,10 @@
-ghost use Rattle.std.specs.Prelude.{◌≤◌};
+ghost use Rattle.std.specs.Prelude.{◌≡◌, ◌≤◌, false};
 
-use bcv_base::{MemSink, MemSource};
+use bcv_base::{CountNames, MemSink, MemSource, Outside, SetClock};
+use bcv_disk::MemDisk;
 use bcv_keeprule::{KeepRule, retention_passed};
-use bcv_top::{Status, bcv_top, replay_top};
+use bcv_memstore::MemStore;
+use bcv_top::{Ended, Status, bcv_top, replay_top};
 use std::alloc::{AllocError, Global};
 use std::test::Fail;
 
@@ -13,11 +15,70 @@ const FIRST_READ: &str =
 const FIRST_REPLIES: &str =
     "task 1 working 1\n+1 done 1\ntask 1 working 3\nworking 2\nworking 1\n+2 done 2\ntxn 1\ntask 1 working 1\npage aa\nbad-page\n";
 
+// How a replay ended: its exit status, and the line and place of a bad line, or zeros.
+#[derive(Clone, Copy, Debug, PartialEq, Eq)]
+pub(crate) struct End {
+    code: u8,
+    line: u64,
+    at: u32,
+}
+
+const DONE: End = End {
+    code: 0,
+    line: 0,
+    at: 0,
+};
+
+const fn plain(code: u8) -> End {
+    End {
+        code,
+        line: 0,
+        at: 0,
+    }
+}
+
+const fn bad(line: u64, at: u32) -> End {
+    End { code: 3, line, at }
+}
+
+fn end_of(status: &Status) -> End {
+    match status {
+        Status::BadScript { line, at } => bad(*line, *at),
+        other => plain(other.code()),
+    }
+}
+
 // How a replay ended, and what it wrote.
 #[derive(Drop)]
 pub(crate) struct Ran {
-    pub status: Status,
+    pub end: End,
     pub text: Vec<u8>,
+}
+
+// Runs a command over an empty store and disk in memory.
+fn run(
+    alloc: Global,
+    words: &[String],
+    input: &mut MemSource,
+    output: &mut MemSink,
+) -> Ended<MemDisk>
+    requires { input.old.ended ≡ false }
+{
+    let mut outside = Outside {
+        store: MemStore::new(alloc),
+        clock: SetClock::new(0),
+        names: CountNames::new(),
+    };
+    let rule = KeepRule::new(retention_passed);
+    bcv_top(
+        alloc,
+        words,
+        MemDisk::new(alloc),
+        &mut outside,
+        &rule,
+        input,
+        output,
+    )
 }
 
 // Replays a script that comes in pieces, from a source and to a sink that fail at these calls.
@@ -40,12 +101,11 @@ pub(crate) fn replayed(
     failing_gives.extend_from_slice(gives)?;
     let mut input = MemSource::new(bytes, piece, failing_takes);
     let mut output = MemSink::new(alloc, failing_gives);
-    let rule = KeepRule::new(retention_passed);
-    let ran = bcv_top(alloc, &words, &rule, &mut input, &mut output);
+    let ran = run(alloc, &words, &mut input, &mut output);
     let mut text = Vec::new(alloc);
     text.extend_from_slice(output.bytes())?;
     Ok(Ran {
-        status: ran.status,
+        end: end_of(&ran.status),
         text,
     })
 }
@@ -86,14 +146,14 @@ fn worlds(rt: HostRuntime) -> Result<(), Fail> {
 #[test]
 fn first_read(rt: HostRuntime) -> Result<(), Fail> {
     let script = FIRST_READ.as_bytes();
-    for (piece, takes, gives, status, text) in [
-        (65536usize, [0u64], [0u64], Status::Done, FIRST_REPLIES),
-        (1, [0], [0], Status::Done, FIRST_REPLIES),
-        (1, [3], [0], Status::ReadFault, ""),
-        (65536, [0], [1], Status::WriteFault, ""),
+    for (piece, takes, gives, end, text) in [
+        (65536usize, [0u64], [0u64], DONE, FIRST_REPLIES),
+        (1, [0], [0], DONE, FIRST_REPLIES),
+        (1, [3], [0], plain(4), ""),
+        (65536, [0], [1], plain(5), ""),
     ] {
         let ran = replayed(rt.alloc(), script, piece.max(1), &takes, &gives)?;
-        assert_eq!(rt; ran.status, status);
+        assert_eq!(rt; ran.end, end);
         assert_eq!(rt; ran.text.as_slice(), text.as_bytes());
     }
     Ok(())
@@ -111,7 +171,7 @@ fn says(alloc: Global, lines: &str, text: &str) -> Result<bool, AllocError> {
     let script = format!(in alloc; "{MADE}{lines}")?;
     let replies = format!(in alloc; "{MADE_REPLIES}{text}")?;
     let ran = replayed(alloc, script.as_bytes(), 65536, &[], &[])?;
-    Ok(ran.status == Status::Done && ran.text.as_slice() == replies.as_bytes())
+    Ok(ran.end == DONE && ran.text.as_slice() == replies.as_bytes())
 }
 
 // Copies and removals, a name that is taken, a task beside another one, requests that fail, and a pending publication.
@@ -180,75 +240,71 @@ fn tasks(rt: HostRuntime) -> Result<(), Fail> {
 
 #[test]
 fn scripts(rt: HostRuntime) -> Result<(), Fail> {
-    for (script, status, text) in [
-        ("", Status::BadScript { line: 1, at: 0 }, ""),
-        ("world 1 1024 512 100 2\n", Status::Done, ""),
-        ("world 1 1024 512 100 2", Status::Done, ""),
-        (
-            "world 17 1024 512 100 2\n",
-            Status::BadScript { line: 1, at: 6 },
-            "",
-        ),
+    for (script, end, text) in [
+        ("", bad(1, 0), ""),
+        ("world 1 1024 512 100 2\n", DONE, ""),
+        ("world 1 1024 512 100 2", DONE, ""),
+        ("world 17 1024 512 100 2\n", bad(1, 6), ""),
         (
             "world 1 1024 512 100 2\n1 begin a\n1 new a aa\n1 step 1\n",
-            Status::Done,
+            DONE,
             "no-database\ntask 1 working 3\nno-container\n",
         ),
         (
             "world 1 1024 512 100 2\n1 create",
-            Status::Done,
+            DONE,
             "task 1 working 1\n",
         ),
         (
             "world 1 1024 512 100 2\n1 create\n1 create\n1 step 1\n1 step 1\n",
-            Status::Done,
+            DONE,
             "task 1 working 1\nbusy\n+1 done 1\nno-task\n",
         ),
         (
             "world 1 1024 512 100 2\n1 create\n1 step 1 fail\n1 create\n",
-            Status::Done,
+            DONE,
             "task 1 working 1\nunknown 00000000000000000000000000000002\npending\n",
         ),
         (
             "world 1 1024 512 100 2\n1 create\n1 step 1\n1 new a\n1 step 1\n1 step 1\n1 new a\n1 step 1\n",
-            Status::Done,
+            DONE,
             "task 1 working 1\n+1 done 1\ntask 1 working 2\nworking 1\n+2 done 2\ntask 1 working 2\nexists\n",
         ),
         (
             "world 1 1024 512 100 2\ntick 1\n1 list\n1 create\n1 step 1 lost\n1 list\n1 crash 0\n1 step 1\n1 up\n",
-            Status::Done,
+            DONE,
             "ok\nlist\ntask 1 working 1\n+1 unknown 00000000000000000000000000000002\nlist pending\ncrashed\ndown\nup pending\n",
         ),
         // Two clients, each with what it knows.
         (
             "world 2 1024 512 100 2\n1 create\n1 step 1\n1 new a aa\n1 step 1\n1 step 1\n1 step 1\n2 begin a\n2 poll\n2 step 1\n2 begin a\n2 read 1 1\n2 step 1\n",
-            Status::Done,
+            DONE,
             "task 1 working 1\n+1 done 1\ntask 1 working 3\nworking 2\nworking 1\n+2 done 2\nno-database\ntask 1 working 1\npolled 2\ntxn 1\ntask 1 working 1\npage aa\n",
         ),
         // Lines that aren't in the grammar, each with the place of the first word that cannot stand.
         (
             "world 1 1024 512 100 2\n1 create\n1 step 1\n1 commit a 1 0=aa\n",
-            Status::BadScript { line: 4, at: 13 },
+            bad(4, 13),
             "task 1 working 1\n+1 done 1\n",
         ),
         (
             "world 1 1024 512 100 2\n1 create\n2 list",
-            Status::BadScript { line: 3, at: 0 },
+            bad(3, 0),
             "task 1 working 1\n",
         ),
         (
             "world 1 1024 512 100 2\n1 create\n1 step\n",
-            Status::BadScript { line: 3, at: 6 },
+            bad(3, 6),
             "task 1 working 1\n",
         ),
         (
             "world 1 1024 512 100 2\n1 create\n\n",
-            Status::BadScript { line: 3, at: 0 },
+            bad(3, 0),
             "task 1 working 1\n",
         ),
     ] {
         let ran = replayed(rt.alloc(), script.as_bytes(), 65536, &[], &[])?;
-        assert_eq!(rt; ran.status, status, "{script}");
+        assert_eq!(rt; ran.end, end, "{script}");
         assert_eq!(rt; ran.text.as_slice(), text.as_bytes(), "{script}");
     }
     Ok(())
@@ -259,8 +315,8 @@ fn long_line(rt: HostRuntime) -> Result<(), Fail> {
     let mut line = Vec::new(rt.alloc());
     line.resize(1048577, b'w')?;
     assert_eq!(rt;
-        replayed(rt.alloc(), &line, 65536, &[], &[])?.status,
-        Status::TooLong
+        replayed(rt.alloc(), &line, 65536, &[], &[])?.end,
+        plain(13)
     );
     Ok(())
 }
@@ -271,17 +327,16 @@ fn words(rt: HostRuntime) -> Result<(), Fail> {
     let mut input = MemSource::new(Vec::new(alloc), 1, Vec::new(alloc));
     let mut output = MemSink::new(alloc, Vec::new(alloc));
     let mut words = Vec::new(alloc);
-    let rule = KeepRule::new(retention_passed);
     assert_eq!(rt;
-        bcv_top(alloc, &words, &rule, &mut input, &mut output).status,
-        Status::BadWords
+        run(alloc, &words, &mut input, &mut output).status.code(),
+        2
     );
     words.push(format!(in alloc; "replay")?)?;
     words.push(format!(in alloc; "replay")?)?;
     let mut again = MemSource::new(Vec::new(alloc), 1, Vec::new(alloc));
     assert_eq!(rt;
-        bcv_top(alloc, &words, &rule, &mut again, &mut output).status,
-        Status::BadWords
+        run(alloc, &words, &mut again, &mut output).status.code(),
+        2
     );
     Ok(())
 }

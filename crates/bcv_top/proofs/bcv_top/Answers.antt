@@ -1,36 +1,41 @@
-use Rattle.std.proofs.Common.{sym, ◌∙◌}
-use Rattle.bcv_top.specs.declared.command.Command.TheVariants as command
-use Rattle.bcv_top.proofs.Commanded.{generate_causes, generate_is_one, generated_words, nothing_causes, replay_is_one, runs_generate, runs_nothing, runs_replay, words_refused, words_taken}
+use Rattle.std.proofs.Common.{rules, ◌≡◌, None, map, refl, string_bytes, sym, ◌∙◌}
+use Rattle.bcv_top.proofs.CommandForms.{runs_over_client}
+use Rattle.bcv_top.proofs.Commanded.{client_causes, runs_client, runs_generate, runs_nothing, same_command, uses_alone, uses_client, words_taken}
 use Rattle.bcv_top.proofs.bcv_top.Goals as goal
 
-pub returns-in-Replay-clause-words : goal.returns-in-Replay-clause-words
-returns-in-Replay-clause-words g c =
-    words_taken _ command.Replay _ (sym c.read_command.ensures ∙ c.in-Replay.is) replay_is_one c.replay_top.ensures.words
+pub returns-in_default-clause-runs : goal.returns-in_default-clause-runs
+returns-in_default-clause-runs g c =
+    let none : c.read_words.result ≡ None = search rules in
+    runs_nothing (g.I.Source.left c.args.input.now) (g.I.Source.left c.args.input.now) (g.O.Sink.given c.args.out.now) (g.O.Sink.given c.args.out.now) _ _ _
+    (sym c.read_words.ensures ∙ none) refl refl
 
-pub returns-in-Replay-clause-runs : goal.returns-in-Replay-clause-runs
-returns-in-Replay-clause-runs g c =
-    runs_replay _ _ _ _ _ _ _ (sym c.read_command.ensures ∙ c.in-Replay.is) c.replay_top.ensures.words c.replay_top.ensures.replays
-
-pub returns-in-Generate-clause-words : goal.returns-in-Generate-clause-words
-returns-in-Generate-clause-words g c =
-    let h = c.generate_top.ensures.generates in
-    words_taken _ (command.Generate c.in-Generate.number) _ (sym c.read_command.ensures ∙ c.in-Generate.is)
-    (generate_is_one c.in-Generate.number) (generated_words c.in-Generate.number _ _ h.0 h.2)
+pub run_command-ran-requires : goal.run_command-ran-requires
+run_command-ran-requires g c =
+    let is = sym c.read_words.ensures ∙ c.in-Some.is in
+    record {
+      unended = c.requires.unended;
+      over = runs_over_client (map string_bytes c.args.words.now) c.in-Some.command is (uses_client c.in-Some.command c.in_default-command.not-Replay c.in_default-command.not-Generate);
+      rule = c.requires.rule;
+    }
 
 pub returns-in-Generate-clause-runs : goal.returns-in-Generate-clause-runs
 returns-in-Generate-clause-runs g c =
-    runs_generate (g.I.Source.left c.args.input.now) (g.I.Source.left c.args.input.now) _ _ _ _ _ c.in-Generate.number
-    (sym c.read_command.ensures ∙ c.in-Generate.is) c.generate_top.ensures.generates
+    let is = sym c.read_words.ensures ∙ c.in-Some.is in
+    rw (c.with_disk-in-Generate.ensures.status, c.with_disk-in-Generate.ensures.world)
+    (runs_generate (g.I.Source.left c.args.input.now) (g.I.Source.left c.args.input.now) (g.O.Sink.given c.args.out.now) (g.O.Sink.given c.generate_top.new.out) _ _ _
+    c.in-Generate.number (rw (sym c.in-Generate.is) is) c.generate_top.ensures.generates)
 
-pub returns-in-Generate-clause-causes : goal.returns-in-Generate-clause-causes
-returns-in-Generate-clause-causes g c =
-    let h = c.generate_top.ensures.generates in
-    generate_causes c.in-Generate.number _ _ h.0 _ _ _ h.2 c.generate_top.ensures.cause
-
-pub returns-in-Bad-clause-words : goal.returns-in-Bad-clause-words
-returns-in-Bad-clause-words g c = words_refused _ _ (sym c.read_command.ensures ∙ c.in-Bad.is) c.at.ensures.status
-
-pub returns-in-Bad-clause-runs : goal.returns-in-Bad-clause-runs
-returns-in-Bad-clause-runs g c =
-    runs_nothing (g.I.Source.left c.args.input.now) (g.I.Source.left c.args.input.now) (g.O.Sink.given c.args.out.now) (g.O.Sink.given c.args.out.now) _ _ _
-    (sym c.read_command.ensures ∙ c.in-Bad.is) c.at.ensures.status c.at.ensures.world
+pub returns-in_default-command : goal.returns-in_default-command
+returns-in_default-command g c =
+    let k = c.in-Some.command in
+    let is = sym c.read_words.ensures ∙ c.in-Some.is in
+    let uses = uses_client k c.in_default-command.not-Replay c.in_default-command.not-Generate in
+    let r = c.run_command-ran.ensures.runs in
+    record {
+      words = words_taken _ k _ is c.run_command-ran.ensures.words;
+      runs = runs_client (g.I.Source.left c.args.input.now) (g.I.Source.left c.run_command-ran.new.input) (g.O.Sink.given c.args.out.now) (g.O.Sink.given c.run_command-ran.new.out) _ _ _
+          k is uses c.run_command-ran.ensures.words refl r.0 r.1 r.2 r.3;
+      alone = λ a. absurd (uses_alone _ k is uses a);
+      client = λ q also used. rw (same_command _ k q is also) r;
+      causes = client_causes _ _ _ _ _ c.run_command-ran.ensures.causes;
+    }

@@ -1,6 +1,6 @@
 use Rattle.std.proofs.Common.{◌≡◌, ◌≢◌, ◌+◌, None, length, refl, sym, ap, subst, Result, Err, arith}
-use Rattle.bcv_top.specs.declared.status.Status.{Status}
-use Rattle.bcv_top.specs.declared.status.Status.TheVariants as status
+use Rattle.bcv_commands.specs.declared.status.Status.{Status}
+use Rattle.bcv_commands.specs.declared.status.Status.TheVariants as status
 use Rattle.bcv_top.proofs.Causes.{line_end, last_end, caused, caused_by_input, end_line_end, end_caused}
 use Rattle.bcv_top.specs.Headline.{HasCauses}
 use Rattle.bcv_top.specs.Led.{kept_at}

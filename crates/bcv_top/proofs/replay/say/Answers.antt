@@ -1,5 +1,5 @@
 use Rattle.std.proofs.Common.{sym, subst, ◌∙◌, Result, Err}
-use Rattle.bcv_top.specs.declared.status.Status.{Status}
+use Rattle.bcv_commands.specs.declared.status.Status.{Status}
 use Rattle.bcv_top.proofs.Stepping.{Wrote_out, says_wrote, says_stopped, wrote_failed}
 use Rattle.bcv_top.proofs.replay.say.Goals as goal
 

@@ -1,5 +1,5 @@
 use Rattle.std.proofs.Common.{ap, Result, Err}
-use Rattle.bcv_top.specs.declared.status.Status.{Status}
+use Rattle.bcv_commands.specs.declared.status.Status.{Status}
 use Rattle.bcv_top.proofs.Stepping.{last_err}
 use Rattle.bcv_top.proofs.replay.say_last.Goals as goal
 
