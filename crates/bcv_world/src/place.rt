@@ -3,12 +3,13 @@ ghost use Rattle.std.specs.Prelude.{◌≡◌, ◌≤◌, ◌<◌, ◌+◌, ◌^
 ghost use Rattle.bcv_base.specs.Numbered.{Counter};
 ghost use Rattle.bcv_base.specs.declared.log.Entry.{Entry};
 ghost use Rattle.bcv_keeprule.specs.Retention.{IsKeepRule};
+ghost use Rattle.bcv_clientlog.specs.LogParts.{log_disk};
 ghost use Rattle.bcv_client.specs.AskCalls.{AskInForm, taken_with};
 ghost use Rattle.bcv_client.specs.InForm.{IsClient};
 ghost use Rattle.bcv_world.specs.AskedOnce.{AskedOnce};
 ghost use Rattle.bcv_world.specs.EventCaching.{ActCaches, AsksPlace, HasNone, open_in};
 ghost use Rattle.bcv_world.specs.LineEvents.{ActInForm};
-ghost use Rattle.bcv_world.specs.SetTroubles.{SetsTrouble};
+ghost use Rattle.bcv_world.specs.SetTroubles.{SetsTrouble, crashed};
 ghost use Rattle.bcv_world.specs.Standing.{IsNewUp, PlaceActs};
 ghost use Rattle.bcv_world.specs.UpReplies.{down_reply, up_reply};
 ghost use Rattle.bcv_world.specs.WorldForm.{PlaceInForm, PlaceWithin, taken_in};
@@ -176,6 +177,7 @@ fn crash(client: Client<MemDisk>, image: u8) -> (Place, Reply)
         → PlaceActs log log names names moment slots (place.Up client) result.0 (act.Crash image)
         result.1 }
     ensures caches { open_in result.0 ≡ None }
+    ensures left { result.0 ≡ place.Down (crashed image (log_disk client.ledger.log)) }
 {
     let mut disk = client.down();
     let reply = match disk.crash(image) {

@@ -89,7 +89,7 @@ pub returns-in-Up-clause-sets : goal.returns-in-Up-clause-sets
 returns-in-Up-clause-sets g c = rw c.in-Up.is tt
 
 pub returns-in-Crash-clause-sets : goal.returns-in-Crash-clause-sets
-returns-in-Crash-clause-sets g c = rw c.in-Crash.is tt
+returns-in-Crash-clause-sets g c = rw c.in-Crash.is c.crash.ensures.left
 
 pub returns-in-Fuse-clause-sets : goal.returns-in-Fuse-clause-sets
 returns-in-Fuse-clause-sets g c = rw c.in-Fuse.is c.fuse.ensures.only.log.disk.trouble
