@@ -136,7 +136,8 @@ fn ask_up<F: Fn(u64, u64, u64) -> bool>(
         result.0 result.1 }
 {
     let reply = ask_once(alloc, around, rule, &mut client, ask, outcome);
-    if client.burnt() {
+    let burnt = client.burnt();
+    if burnt {
         return (Place::Down(client.down()), Reply::Crashed);
     }
     (Place::Up(client), reply)

@@ -16,12 +16,12 @@ returns-clause-left g =
 
 pub returns-clause-acts : goal.returns-clause-acts
 returns-clause-acts g log names moment slots =
-    let crashed : g.match-crash.reply ≡ reply.Crashed =
+    let said : g.match-crash.reply ≡ reply.Crashed =
     elim g.match-crash.branch [
       | in-Done w ↦ w.reply-is
       | in-Failed w ↦ absurd (cc (w.in-Failed.is, g.crash.ensures.done))
       | in-NoMemory w ↦ absurd (cc (w.in-NoMemory.is, g.crash.ensures.done))
     ] in
-    subst (λ (r : Reply). PlaceActs log log names names moment slots (place.Up g.args.client) (place.Down g.crash.new.self) (act.Crash g.args.image) r) (sym crashed)
+    subst (λ (r : Reply). PlaceActs log log names names moment slots (place.Up g.args.client) (place.Down g.crash.new.self) (act.Crash g.args.image) r) (sym said)
     (crashes_up log names moment slots g.args.image g.args.client g.crash.new.self
     (g.crash.ensures.crashed ∙ ap (crashed g.args.image) g.down-disk.ensures.disk))
