@@ -5,10 +5,10 @@ use Rattle.bcv_world.proofs.place.ask_up.Goals as goal
 
 pub returns-then-burnt-clause-acts : goal.returns-then-burnt-clause-acts
 returns-then-burnt-clause-acts g c slots =
-    asked_falls_down _ _ _ _ _ _ _ _ _ _ c.ask_once-reply.ensures.once (sym c.burnt.ensures ∙ c.if-burnt.true) c.down.result c.down.ensures.disk c.down.ensures.down slots
+    asked_falls_down _ _ _ _ _ _ _ _ _ _ c.ask_once-reply.ensures.once (sym c.burnt-burnt.ensures ∙ c.if-burnt.true) c.down.result c.down.ensures.disk c.down.ensures.down slots
 
 pub returns-clause-acts : goal.returns-clause-acts
-returns-clause-acts g c slots = asked_stays_up _ _ _ _ _ _ _ _ _ _ c.ask_once-reply.ensures.once (sym c.burnt.ensures ∙ c.if-burnt.false) slots
+returns-clause-acts g c slots = asked_stays_up _ _ _ _ _ _ _ _ _ _ c.ask_once-reply.ensures.once (sym c.burnt-burnt.ensures ∙ c.if-burnt.false) slots
 
 pub returns-then-burnt-clause-caches : goal.returns-then-burnt-clause-caches
 returns-then-burnt-clause-caches g c = asked_burnt _ _ _ _ _ _ _ _ c.ask_once-reply.ensures.caches
