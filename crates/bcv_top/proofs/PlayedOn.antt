@@ -16,7 +16,7 @@ use Rattle.bcv_dbmap.specs.Honest.{AreApart}
 use Rattle.bcv_dbmap.proofs.Bools.{neither_or, not_passed, not_both, or_cases, or_left, or_neither, or_right}
 use Rattle.bcv_world.specs.declared.tally.Tally.{Tally}
 use Rattle.bcv_world.specs.declared.world.World.{World}
-use Rattle.bcv_world.specs.Standing.{EventTaken, IsFirst, Stands, TakesEvent, names_of, state_at}
+use Rattle.bcv_world.specs.Standing.{EventTaken, IsFirst, Stands, names_of, state_at}
 use Rattle.bcv_world.specs.Tallies.{IsGoingOn, IsOther, IsPage, IsTally, ReplyKind, kind_of_reply, tallied, with_reply}
 use Rattle.bcv_world.specs.WorldForm.{IsWorld}
 use Rattle.bcv_machine.specs.Run.{Accepts, AllDiffer, Run, Transcript, drawn, empty_transcript, then_said}
@@ -34,6 +34,7 @@ use Rattle.bcv_model.specs.declared.reply.Said.{Said}
 use Rattle.bcv_model.specs.declared.spec.WorldSpec.{WorldSpec}
 use Rattle.bcv_worldlaws.specs.Places.{ClientPlace}
 use Rattle.bcv_worldlaws.proofs.WorldOn.{numbers_are_new}
+use Rattle.bcv_top.specs.Course.{Course, WorldTakes}
 use Rattle.bcv_top.specs.Led.{PlaysOn, is_no_memory}
 use Rattle.bcv_top.specs.Replay.{Plays, StandsFor, tally_of}
 
@@ -57,6 +58,15 @@ drawn_more a (z ∷ zs) [] cs b e s c r = absurd r
 drawn_more a (z ∷ zs) (y ∷ ys) [] b e s c r = absurd r
 drawn_more a (z ∷ zs) (y ∷ ys) (x ∷ xs) b e s c r =
     ap (λ (l : List Id16). drawn_by z y x ++ l) (drawn_more r.0 zs ys xs b e s c r.2) ∙ sym (append_assoc (drawn_by z y x) (drawn zs ys xs) (drawn_by e s c))
+
+-- ---- the worlds
+
+course_more : (w : World) (es : List Event) (ss : List Said) (last : World) (e : Event) (s : Said) (new : World) → Course w es ss last → WorldTakes last new e s
+    → Course w (es ++ e ∷ []) (ss ++ s ∷ []) new
+course_more w [] [] last e s new c t = (new, subst (λ (x : World). WorldTakes x new e s) c t, refl)
+course_more w [] (y ∷ ys) last e s new c t = absurd c
+course_more w (z ∷ zs) [] last e s new c t = absurd c
+course_more w (z ∷ zs) (y ∷ ys) last e s new c t = (c.0, c.1, course_more c.0 zs ys last e s new c.2 t)
 
 -- ---- drawn ids
 
@@ -112,14 +122,17 @@ no_memory r ran e = let t : is_no_memory r ≡ true = ap is_no_memory e in cc
 
 -- what a world stands for, in the words of its log
 plays_of : (w : World) (h : Transcript) (places : List ClientPlace) → Stands w places → Accepts w.spec h (state_at w places) → w.tally ≡ tally_of h.saids
-    → Plays w h (state_at w places)
-plays_of w h places stands accepts tally = record {
+    → (first : World) → IsFirst first → Course first h.events h.saids w → Plays w h (state_at w places)
+plays_of w h places stands accepts tally first is_first course = record {
   accepts = accepts;
   stands = (places, stands, refl);
   versions = record { read = stands.fits.sound.reads; are = refl };
   sound = stands.fits.sound;
   deletions = stands.fits.sound.safe;
   tally = tally;
+  first = first;
+  is_first = is_first;
+  course = course;
 }
 
 -- the world after one more event, and what it stands for
@@ -129,13 +142,13 @@ pub record OneMore (new : World) (h : Transcript) (e : Event) (s : Said) (events
   pub on : PlaysOn new (then_said h e s choice) state (events + 1)
 
 module _ (old new : World) (h : Transcript) (a : State) (events : ℕ) (e : Event) (s : Said) (on : PlaysOn old h a events) (world : IsWorld new)
-    (spec : new.spec ≡ old.spec) (tally : new.tally ≡ tallied old.tally s) (takes : TakesEvent old new e s) (few : events < 2 ^ 63)
+    (spec : new.spec ≡ old.spec) (tally : new.tally ≡ tallied old.tally s) (goes : WorldTakes old new e s) (few : events < 2 ^ 63)
     (ran : s.reply ≢ reply.NoMemory) where
   abbrev places : List ClientPlace
   places = on.plays.stands.0
 
   abbrev taken : EventTaken old new e s places
-  taken = takes places on.plays.stands.1
+  taken = goes.takes places on.plays.stands.1
 
   abbrev choice : Choice
   choice = (taken.next ran).0
@@ -178,13 +191,16 @@ module _ (old new : World) (h : Transcript) (a : State) (events : ℕ) (e : Even
   tallies : new.tally ≡ tally_of (h.saids ++ s ∷ [])
   tallies = tally ∙ ap (λ (t : Tally). tallied t s) on.plays.tally ∙ sym (fold-append tallied (record { events = 0; versions = 0; pages = 0; working = 0; other = 0 }) h.saids (s ∷ []))
 
+  course : Course on.plays.first (h.events ++ e ∷ []) (h.saids ++ s ∷ []) new
+  course = course_more on.plays.first h.events h.saids old e s new on.plays.course goes
+
   pub one_more : OneMore new h e s events
   one_more = record {
     choice = choice;
     state = later_state;
     on = record {
       world = world;
-      plays = plays_of new (then_said h e s choice) taken.later taken.stands accepts tallies;
+      plays = plays_of new (then_said h e s choice) taken.later taken.stands accepts tallies on.plays.first on.plays.is_first course;
       events_are = counted;
       named = named;
     };
@@ -210,7 +226,7 @@ no_events t is none =
 pub new_plays : (w : World) → IsWorld w → w.tally.events ≡ 0 → (first : IsFirst w) → PlaysOn w empty_transcript (state_at w first.places) 0
 new_plays w world none first = record {
   world = world;
-  plays = plays_of w empty_transcript first.places first.stands (record { run = first.state; differ = tt }) (no_events w.tally world.tally_is none);
+  plays = plays_of w empty_transcript first.places first.stands (record { run = first.state; differ = tt }) (no_events w.tally world.tally_is none) w first refl;
   events_are = none;
   named = λ i h. absurd (let never : false ≡ true = h in cc);
 }

@@ -5,7 +5,7 @@ use Rattle.std.specs.Io.KnownBytes.{Appends}
 use Rattle.std.proofs.KnownBytes.{Appends-nil}
 use Rattle.std.proofs.lemmas.List.{map-append}
 use Rattle.bcv_world.specs.declared.world.World.{World}
-use Rattle.bcv_world.specs.Standing.{IsFirst, TakesEvent, state_at}
+use Rattle.bcv_world.specs.Standing.{IsFirst, state_at}
 use Rattle.bcv_world.specs.Tallies.{tallied}
 use Rattle.bcv_world.specs.WorldForm.{IsWorld}
 use Rattle.bcv_machine.specs.Run.{Transcript, empty_transcript, then_said}
@@ -22,6 +22,7 @@ use Rattle.bcv_top.specs.declared.output.Wrote.{Wrote}
 use Rattle.bcv_top.specs.declared.output.Wrote.TheVariants as wrote
 use Rattle.bcv_commands.specs.declared.status.Status.{Status}
 use Rattle.bcv_commands.specs.declared.status.Status.TheVariants as status
+use Rattle.bcv_top.specs.Course.{WorldTakes}
 use Rattle.bcv_top.specs.Replay.{Runs, replies_text}
 use Rattle.bcv_top.specs.Writing.{Writes}
 use Rattle.bcv_top.specs.Led.{LedBy, LeadsOn, PlaysOn, Tells, Steps, Ends, Says, SaysLast, First, Answers, is_no_memory, listed, stopped_by, writing_end_of}
@@ -44,7 +45,7 @@ pub record GoesOn (old new : World) (e : Event) (s : Said) : Type 0 where
   pub world : IsWorld new
   pub spec : new.spec ≡ old.spec
   pub tally : new.tally ≡ tallied old.tally s
-  pub takes : TakesEvent old new e s
+  pub takes : WorldTakes old new e s
 
 module _ (old new : World) (line : List ℕ) (e : Event) (s : Said) (is : event_of old.spec line ≡ Ok e) (ran : is_no_memory s.reply ≡ false)
     (few : old.tally.events < 2 ^ 62) (goes : GoesOn old new e s) where

@@ -6,3 +6,4 @@ pub mod Led
 pub mod MadeRun
 pub mod Replay
 pub mod Writing
+pub mod Course

@@ -7,7 +7,7 @@ use Rattle.bcv_dbmap.specs.Deletions.{SafeDeletions}
 use Rattle.bcv_dbmap.specs.Sound.{IsSoundLog}
 use Rattle.bcv_world.specs.declared.tally.Tally.{Tally}
 use Rattle.bcv_world.specs.declared.world.World.{World}
-use Rattle.bcv_world.specs.Standing.{Stands, state_at}
+use Rattle.bcv_world.specs.Standing.{IsFirst, Stands, state_at}
 use Rattle.bcv_world.specs.Tallies.{tallied}
 use Rattle.bcv_world.specs.WorldForm.{IsWorld}
 use Rattle.bcv_machine.specs.Run.{Accepts, Transcript}
@@ -17,6 +17,7 @@ use Rattle.bcv_model.specs.declared.reply.Said.{Said}
 use Rattle.bcv_model.specs.ReplyText.{said_text}
 use Rattle.bcv_model.specs.Script.{event_of, world_of}
 use Rattle.bcv_worldlaws.specs.Places.{ClientPlace}
+use Rattle.bcv_top.specs.Course.{Course}
 
 -- the lines of text that replies are written as
 abbrev pub replies_text : List Said → List ℕ
@@ -33,7 +34,7 @@ StandsFor w a = (places : List ClientPlace) × Stands w places × (state_at w pl
 
 -- the machine accepts what was said of the events, from the first state of the world's line on; the world stands for the
 -- state that it reaches, whose versions are exactly those of the store's log; the log is sound, each deletion in it was
--- safe, and the world's tally counts the replies
+-- safe, and the world's tally counts the replies; a first world went to this one, event by event
 pub record Plays (w : World) (h : Transcript) (a : State) : Type 0 where
   pub accepts : Accepts w.spec h a
   pub stands : StandsFor w a
@@ -41,6 +42,9 @@ pub record Plays (w : World) (h : Transcript) (a : State) : Type 0 where
   pub sound : IsSoundLog (log_of w.around.store)
   pub deletions : SafeDeletions (history_of (log_of w.around.store))
   pub tally : w.tally ≡ tally_of h.saids
+  pub first : World
+  pub is_first : IsFirst first
+  pub course : Course first h.events h.saids w
 
 -- these lines are the events that were played in the world, and these are the replies to them
 pub record Runs (w : World) (h : Transcript) (a : State) (lines : List (List ℕ))

@@ -14,3 +14,4 @@ pub mod SetDisks
 pub mod QuietPlaces
 pub mod RisenPlaces
 pub mod NewPlaces
+pub mod AskedStores

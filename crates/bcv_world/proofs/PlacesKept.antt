@@ -74,6 +74,10 @@ module _ {T : Type 0} where
   pub put_found : (n : ℕ) (slots : List (Slot T)) (new : T) → OthersHaveNone → item_at n (other_slots n slots ++ record { number = n; item = new } ∷ []) ≡ Some new
   put_found n slots new none = added_last n (other_slots n slots) (record { number = n; item = new }) (ap (has_number n) (numbers_left n slots) ∙ none n (numbers_of slots)) refl
 
+  -- the other numbers have what they had
+  pub put_others : (m n : ℕ) (slots : List (Slot T)) (new : T) → (m ≡ n → ⊥) → item_at m (other_slots n slots ++ record { number = n; item = new } ∷ []) ≡ item_at m slots
+  put_others m n slots new other = added_other m (other_slots n slots) (record { number = n; item = new }) (λ same. other (sym same)) ∙ found_left m n slots other
+
   -- ---- places
 
   module _ (Is : ℕ → T → Type 0) (count n : ℕ) (slots : List (Slot T)) (has : HasPlaces Is count slots) (from : 1 ≤ n) (to : n ≤ count) where
@@ -106,7 +110,7 @@ module _ {T : Type 0} where
           there m low high (inl same) =
               subst (λ (k : ℕ). MatchOption (item_at k later) ⊥ (Js k)) (sym same) (subst (λ (o : Option T). MatchOption o ⊥ (Js n)) (sym (put_found n slots new none)) is)
           there m low high (inr ne) =
-              let found : item_at m later ≡ item_at m slots = added_other m (other_slots n slots) (record { number = n; item = new }) (λ same. ne (sym same)) ∙ found_left m n slots ne in
+              let found : item_at m later ≡ item_at m slots = put_others m n slots new ne in
               subst (λ (o : Option T). MatchOption o ⊥ (Js m)) (sym found) (stays m ne (item_at m slots) (has.at m low high))
 
   -- ---- the first places

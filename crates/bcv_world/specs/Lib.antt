@@ -7,3 +7,4 @@ pub mod LineLaws
 pub mod FirstPlaces
 pub mod AskedOnce
 pub mod UpReplies
+pub mod EventCaching

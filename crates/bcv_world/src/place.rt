@@ -1,13 +1,15 @@
 //! One client of a world, which is up or down.
-ghost use Rattle.std.specs.Prelude.{◌≡◌, ◌≤◌, ◌<◌, ◌+◌, ◌^◌, ℕ, List, IfOk};
+ghost use Rattle.std.specs.Prelude.{◌≡◌, ◌≤◌, ◌<◌, ◌+◌, ◌^◌, ℕ, List, IfOk, None};
 ghost use Rattle.bcv_base.specs.Numbered.{Counter};
 ghost use Rattle.bcv_base.specs.declared.log.Entry.{Entry};
 ghost use Rattle.bcv_keeprule.specs.Retention.{IsKeepRule};
+ghost use Rattle.bcv_clientlog.specs.LogParts.{log_disk};
 ghost use Rattle.bcv_client.specs.AskCalls.{AskInForm, taken_with};
 ghost use Rattle.bcv_client.specs.InForm.{IsClient};
 ghost use Rattle.bcv_world.specs.AskedOnce.{AskedOnce};
+ghost use Rattle.bcv_world.specs.EventCaching.{ActCaches, AsksPlace, HasNone, open_in};
 ghost use Rattle.bcv_world.specs.LineEvents.{ActInForm};
-ghost use Rattle.bcv_world.specs.SetTroubles.{SetsTrouble};
+ghost use Rattle.bcv_world.specs.SetTroubles.{SetsTrouble, crashed};
 ghost use Rattle.bcv_world.specs.Standing.{IsNewUp, PlaceActs};
 ghost use Rattle.bcv_world.specs.UpReplies.{down_reply, up_reply};
 ghost use Rattle.bcv_world.specs.WorldForm.{PlaceInForm, PlaceWithin, taken_in};
@@ -68,6 +70,7 @@ impl Place {
             around.old.names around.new.names around.old.clock.moment slots self result.0 act
             result.1 }
         ensures sets { SetsTrouble act self result.0 }
+        ensures caches { ActCaches around.old.store around.new.store act self result.0 result.1 }
     {
         match self {
             Place::Up(client) => act_up(alloc, around, rule, client, act),
@@ -95,6 +98,8 @@ fn act_up<F: Fn(u64, u64, u64) -> bool>(
         around.old.names around.new.names around.old.clock.moment slots (place.Up client) result.0
         act result.1 }
     ensures sets { SetsTrouble act (place.Up client) result.0 }
+    ensures caches { ActCaches around.old.store around.new.store act (place.Up client) result.0
+        result.1 }
 {
     match act {
         Act::Ask(ask, outcome) => ask_up(alloc, around, rule, client, ask, outcome),
@@ -127,9 +132,12 @@ fn ask_up<F: Fn(u64, u64, u64) -> bool>(
     ensures acts { (slots : ℕ) → PlaceActs (log_of around.old.store) (log_of around.new.store)
         around.old.names around.new.names around.old.clock.moment slots (place.Up client) result.0
         (act.Ask ask outcome) result.1 }
+    ensures caches { AsksPlace around.old.store around.new.store ask outcome (place.Up client)
+        result.0 result.1 }
 {
     let reply = ask_once(alloc, around, rule, &mut client, ask, outcome);
-    if client.burnt() {
+    let burnt = client.burnt();
+    if burnt {
         return (Place::Down(client.down()), Reply::Crashed);
     }
     (Place::Up(client), reply)
@@ -151,6 +159,8 @@ fn ask_once<F: Fn(u64, u64, u64) -> bool>(
     ensures taken { client.new.taken ≡ taken_with ask client.old.taken }
     ensures once { AskedOnce (log_of around.old.store) (log_of around.new.store) around.old.names
         around.new.names around.old.clock.moment client.old client.new ask outcome result }
+    ensures caches { AsksPlace around.old.store around.new.store ask outcome
+        (place.Up client.old) (place.Up client.new) result }
 {
     around.store.plan(outcome);
     let reply = client.call(alloc, ask, around, rule);
@@ -167,6 +177,8 @@ fn crash(client: Client<MemDisk>, image: u8) -> (Place, Reply)
     ensures acts { (log : List Entry) (names : Counter) (moment slots : ℕ)
         → PlaceActs log log names names moment slots (place.Up client) result.0 (act.Crash image)
         result.1 }
+    ensures caches { open_in result.0 ≡ None }
+    ensures left { result.0 ≡ place.Down (crashed image (log_disk client.ledger.log)) }
 {
     let mut disk = client.down();
     let reply = match disk.crash(image) {
@@ -183,6 +195,8 @@ fn come_up(alloc: Global, around: &mut Around, mut disk: MemDisk, slots: u16) ->
     ensures acts { PlaceActs (log_of around.old.store) (log_of around.new.store)
         around.old.names around.new.names around.old.clock.moment slots (place.Down disk) result.0
         act.Up result.1 }
+    ensures caches { HasNone (open_in result.0) }
+    ensures store { around.new.store ≡ around.old.store }
 {
     disk.mend();
     match Client::up(alloc, disk, &mut around.names, slots) {

@@ -4,6 +4,7 @@ ghost use Rattle.bcv_base.specs.Log.{put_count};
 ghost use Rattle.bcv_base.specs.declared.object.ObjName.TheVariants as object;
 ghost use Rattle.bcv_keeprule.specs.Retention.{IsKeepRule};
 ghost use Rattle.bcv_memstore.specs.Told.{log_of};
+ghost use Rattle.bcv_world.specs.EventCaching.{EventCaches};
 ghost use Rattle.bcv_world.specs.FirstPlaces.{FirstPlaces};
 ghost use Rattle.bcv_world.specs.LineEvents.{IsSpec, Keeps, KeepsAct};
 ghost use Rattle.bcv_world.specs.SetTroubles.{SetsAsTold};
@@ -102,6 +103,7 @@ impl World {
         ensures tally { self.new.tally ≡ tallied self.old.tally result }
         ensures takes { TakesEvent self.old self.new event result }
         ensures sets { SetsAsTold self.old self.new event }
+        ensures caches { EventCaches self.old self.new event result.reply }
     {
         match event {
             Event::Tick(seconds) => self.tick(seconds),
@@ -117,6 +119,7 @@ impl World {
         ensures spec { self.new.spec ≡ self.old.spec }
         ensures tally { self.new.tally ≡ tallied self.old.tally result }
         ensures takes { TakesEvent self.old self.new (event.Tick seconds) result }
+        ensures caches { EventCaches self.old self.new (event.Tick seconds) result.reply }
     {
         self.moment = self.moment.saturating_add(seconds);
         self.around.clock.set(self.moment);
@@ -142,6 +145,7 @@ impl World {
         ensures tally { self.new.tally ≡ tallied self.old.tally result }
         ensures takes { TakesEvent self.old self.new (event.Of number act) result }
         ensures sets { SetsAsTold self.old self.new (event.Of number act) }
+        ensures caches { EventCaches self.old self.new (event.Of number act) result.reply }
     {
         numbers_differ();
         let before = self.around.store.version_count();

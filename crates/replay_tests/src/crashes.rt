@@ -129,3 +129,68 @@ fn resolving(rt: HostRuntime) -> Result<(), Fail> {
     );
     Ok(())
 }
+
+// The note of a commit is four device calls: it is there once an image has its gate, which the third writes at an odd place, so that
+// the image of mixed bytes has it too. A fuse that the commit does not burn burns as the client comes up.
+#[test]
+fn committing(rt: HostRuntime) -> Result<(), Fail> {
+    let all = table(
+        rt.alloc(),
+        "1 fuse @ #\n1 commit a 1 1=bb\n1 crash 0\n1 up\n1 list\n",
+        7,
+    )?;
+    assert_eq!(rt;
+        all.as_str(),
+        "\n\
+0 0 to 2 0 | crashed | down | up | list\n\
+2 1 to 2 1 | crashed | down | up a:2:1:1 | list a:2:1:1\n\
+2 2 to 2 3 | crashed | down | up | list\n\
+2 4 to 2 4 | crashed | down | up a:2:1:1 | list a:2:1:1\n\
+3 0 to 3 0 | crashed | down | up | list\n\
+3 1 to 3 1 | crashed | down | up a:2:1:1 | list a:2:1:1\n\
+3 2 to 3 3 | crashed | down | up | list\n\
+3 4 to 3 4 | crashed | down | up a:2:1:1 | list a:2:1:1\n\
+4 0 to 6 4 | ok | crashed | crashed | down\n\
+7 0 to 9 4 | ok | crashed | up a:2:1:1 | list a:2:1:1"
+    );
+    Ok(())
+}
+
+// A fuse in the note that gives a publication up whose put was refused before: without the note it stays pending.
+#[test]
+fn voiding(rt: HostRuntime) -> Result<(), Fail> {
+    let all = table(
+        rt.alloc(),
+        "1 commit a 1 1=bb\n1 upload a\n1 step 1\n1 step 1\n2 new b bb\n2 step 1\n2 step 1\n2 step 1\n1 step 1\n1 fuse @ #\n1 step 1 fail\n1 crash 0\n1 up\n1 resolve\n1 step 1\n1 list\n",
+        16,
+    )?;
+    assert_eq!(rt;
+        all.as_str(),
+        "\n\
+0 0 to 2 0 | crashed | down | up a:2:1:1 pending | task 1 working 1 | voided | list a:2:1:1\n\
+2 1 to 2 1 | crashed | down | up a:2:1:1 | nothing | no-task | list a:2:1:1\n\
+2 2 to 3 0 | crashed | down | up a:2:1:1 pending | task 1 working 1 | voided | list a:2:1:1\n\
+3 1 to 3 1 | crashed | down | up a:2:1:1 | nothing | no-task | list a:2:1:1\n\
+3 2 to 3 4 | crashed | down | up a:2:1:1 pending | task 1 working 1 | voided | list a:2:1:1\n\
+4 0 to 6 4 | store-fault | crashed | crashed | down | down | down\n\
+7 0 to 9 4 | store-fault | crashed | up a:2:1:1 | nothing | no-task | list a:2:1:1"
+    );
+    Ok(())
+}
+
+// A client comes up by three device calls. Where a fuse burns in one of them it stays down, and comes up the next time.
+#[test]
+fn coming_up(rt: HostRuntime) -> Result<(), Fail> {
+    let all = table(
+        rt.alloc(),
+        "1 commit a 1 1=bb\n1 fuse @ #\n1 crash 0\n1 up\n1 up\n1 list\n",
+        8,
+    )?;
+    assert_eq!(rt;
+        all.as_str(),
+        "\n\
+0 0 to 2 4 | crashed | crashed | up a:2:1:1 | list a:2:1:1\n\
+3 0 to 9 4 | crashed | up a:2:1:1 | is-up | list a:2:1:1"
+    );
+    Ok(())
+}

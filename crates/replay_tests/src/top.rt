@@ -340,3 +340,46 @@ fn words(rt: HostRuntime) -> Result<(), Fail> {
     );
     Ok(())
 }
+
+// What is written for the script that is made from a number.
+fn generated(alloc: Global, number: u8) -> Result<Ran, AllocError> {
+    let mut words = Vec::new(alloc);
+    words.push(format!(in alloc; "generate")?)?;
+    words.push(format!(in alloc; "{number}")?)?;
+    let mut input = MemSource::new(Vec::new(alloc), 1, Vec::new(alloc));
+    let mut output = MemSink::new(alloc, Vec::new(alloc));
+    let rule = KeepRule::new(retention_passed);
+    let ran = bcv_top(alloc, &words, &rule, &mut input, &mut output);
+    let mut text = Vec::new(alloc);
+    text.extend_from_slice(output.bytes())?;
+    Ok(Ran {
+        status: ran.status,
+        text,
+    })
+}
+
+// How many lines a text has.
+fn line_count(text: &[u8]) -> usize {
+    let mut count = 0usize;
+    for byte in text {
+        if *byte == b'\n' {
+            count = count.saturating_add(1);
+        }
+    }
+    count
+}
+
+// Five lines for each number, of which the first counts all events, and the same ones again.
+#[test]
+fn generates(rt: HostRuntime) -> Result<(), Fail> {
+    for number in 0..8 {
+        let once = generated(rt.alloc(), number)?;
+        let again = generated(rt.alloc(), number)?;
+        let text = once.text.as_slice();
+        assert_eq!(rt; once.status, Status::Done);
+        assert_eq!(rt; line_count(text), 5usize);
+        assert!(rt; text.starts_with(b"events 2000\n"));
+        assert_eq!(rt; again.text.as_slice(), text);
+    }
+    Ok(())
+}

@@ -25,6 +25,6 @@ returns g c =
     let is = subst (λ (s : WorldSpec). event_of s c.args.line.now ≡ Ok c.in_ok-event.event) c.spec.ensures c.in_ok-event.ensures in
     let ran : is_no_memory c.apply-said.result.reply ≡ false = search rules in
     let goes : GoesOn c.args.world.now c.apply-said.new.self c.in_ok-event.event c.apply-said.result =
-    record { world = c.apply-said.ensures.world; spec = c.apply-said.ensures.spec; tally = c.apply-said.ensures.tally; takes = c.apply-said.ensures.takes } in
+    record { world = c.apply-said.ensures.world; spec = c.apply-said.ensures.spec; tally = c.apply-said.ensures.tally; takes = record { takes = c.apply-said.ensures.takes; caches = c.apply-said.ensures.caches; sets = c.apply-said.ensures.sets } } in
     let said = c.in_ok-write_reply.ensures.ok ∙ ap (λ (l : List ℕ). l ++ said_text c.apply-said.result) c.requires.empty in
     answered c.args.world.now c.apply-said.new.self c.args.line.now c.in_ok-event.event c.apply-said.result is ran c.requires.few goes c.write_reply.new.into.items said

@@ -1,10 +1,11 @@
-use Rattle.std.proofs.Common.{◌≡◌, ℕ, List, arith, subst, sym}
+use Rattle.std.proofs.Common.{◌≡◌, ℕ, List, Some, ap, arith, refl, subst, sym}
 use Rattle.bcv_base.specs.Numbered.{Counter}
 use Rattle.bcv_base.specs.declared.log.Entry.{Entry}
 use Rattle.bcv_memstore.specs.Told.{log_of}
 use Rattle.bcv_model.specs.declared.event.Act.{Act}
 use Rattle.bcv_model.specs.declared.reply.Reply.{Reply}
 use Rattle.bcv_model.specs.declared.reply.Reply.TheVariants as reply
+use Rattle.bcv_transaction.specs.Open.{Open}
 use Rattle.bcv_world.specs.declared.place.Place.{Place}
 use Rattle.bcv_world.specs.declared.place.Place.TheVariants as place
 use Rattle.bcv_world.specs.Standing.{PlaceActs}
@@ -88,10 +89,25 @@ pub returns-in-Up-clause-sets : goal.returns-in-Up-clause-sets
 returns-in-Up-clause-sets g c = rw c.in-Up.is tt
 
 pub returns-in-Crash-clause-sets : goal.returns-in-Crash-clause-sets
-returns-in-Crash-clause-sets g c = rw c.in-Crash.is tt
+returns-in-Crash-clause-sets g c = rw c.in-Crash.is c.crash.ensures.left
 
 pub returns-in-Fuse-clause-sets : goal.returns-in-Fuse-clause-sets
 returns-in-Fuse-clause-sets g c = rw c.in-Fuse.is c.fuse.ensures.only.log.disk.trouble
 
 pub returns-in-FailAt-clause-sets : goal.returns-in-FailAt-clause-sets
 returns-in-FailAt-clause-sets g c = rw c.in-FailAt.is c.fail.ensures.only.log.disk.trouble
+
+pub returns-in-Ask-clause-caches : goal.returns-in-Ask-clause-caches
+returns-in-Ask-clause-caches g c = rw c.in-Ask.is c.ask_up.ensures.caches
+
+pub returns-in-Up-clause-caches : goal.returns-in-Up-clause-caches
+returns-in-Up-clause-caches g c = rw c.in-Up.is (refl, refl)
+
+pub returns-in-Crash-clause-caches : goal.returns-in-Crash-clause-caches
+returns-in-Crash-clause-caches g c = rw c.in-Crash.is (refl, c.crash.ensures.caches)
+
+pub returns-in-Fuse-clause-caches : goal.returns-in-Fuse-clause-caches
+returns-in-Fuse-clause-caches g c = rw c.in-Fuse.is (refl, ap (λ (o : Open). Some o) c.fuse.ensures.only.txns)
+
+pub returns-in-FailAt-clause-caches : goal.returns-in-FailAt-clause-caches
+returns-in-FailAt-clause-caches g c = rw c.in-FailAt.is (refl, ap (λ (o : Open). Some o) c.fail.ensures.only.txns)

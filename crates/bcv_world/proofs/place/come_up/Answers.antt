@@ -3,6 +3,7 @@ use Rattle.bcv_base.specs.declared.log.Entry.{Entry}
 use Rattle.bcv_memstore.specs.Told.{log_of}
 use Rattle.bcv_model.specs.declared.event.Act.TheVariants as act
 use Rattle.bcv_model.specs.declared.reply.Reply.{Reply}
+use Rattle.bcv_transaction.specs.Open.{Open}
 use Rattle.bcv_world.specs.declared.place.Place.TheVariants as place
 use Rattle.bcv_world.specs.Standing.{PlaceActs}
 use Rattle.bcv_world.specs.UpReplies.{down_reply}
@@ -33,3 +34,6 @@ returns-in-Refused-clause-acts c =
     (sym (c.refused_up-reply.ensures ∙ ap (λ (b : Bool). down_reply b c.in-Refused.fault) c.burnt.ensures))
     (refused_place log c.args.around.now.names c.up.new.names moment c.args.slots c.args.disk c.mend.new.self c.mend.ensures c.in-Refused.disk c.in-Refused.fault c.in-Refused.ensures.rises
     c.in-Refused.ensures.again)
+
+pub returns-in-Ready-clause-caches : goal.returns-in-Ready-clause-caches
+returns-in-Ready-clause-caches c = let txns = c.in-Ready.ensures.empty.txns in (ap (λ (o : Open). o.txns) txns, ap (λ (o : Open). o.cache) txns)

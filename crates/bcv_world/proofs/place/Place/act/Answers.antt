@@ -5,6 +5,7 @@ use Rattle.bcv_model.specs.declared.event.Act.{Act}
 use Rattle.bcv_model.specs.declared.event.Act.TheVariants as act
 use Rattle.bcv_world.specs.declared.place.Place.{Place}
 use Rattle.bcv_world.specs.declared.place.Place.TheVariants as place
+use Rattle.bcv_world.specs.EventCaching.{ActCaches}
 use Rattle.bcv_world.specs.LineEvents.{ActInForm}
 use Rattle.bcv_world.specs.SetTroubles.{SetsTrouble}
 use Rattle.bcv_world.specs.Standing.{PlaceActs}
@@ -67,3 +68,14 @@ down_sets (act.FailAt calls) disk after = tt
 
 pub returns-after-act-clause-sets : goal.returns-after-act-clause-sets
 returns-after-act-clause-sets g c = rw c.in-Down.is (down_sets c.args.act c.in-Down.disk _)
+
+pub returns-in-Up-clause-caches : goal.returns-in-Up-clause-caches
+returns-in-Up-clause-caches g c =
+    subst (λ (p : Place). ActCaches c.args.around.now.store c.act_up.new.around.store c.args.act p c.act_up.result.0 c.act_up.result.1) (sym c.in-Up.is) c.act_up.ensures.caches
+
+pub returns-after-act-clause-caches : goal.returns-after-act-clause-caches
+returns-after-act-clause-caches g c =
+    elim c.match-act.branch [
+      | in-Up-act w ↦ (rw (w.result-is, w.around-is, c.in-Down.is) (w.come_up.ensures.store, w.come_up.ensures.caches))
+      | in_default w ↦ (rw (w.result-is, w.around-is, c.in-Down.is) (refl, tt))
+    ]

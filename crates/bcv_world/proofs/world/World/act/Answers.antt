@@ -4,18 +4,20 @@ use Rattle.bcv_base.specs.declared.object.ObjName.TheVariants as object
 use Rattle.bcv_memstore.specs.Told.{log_of}
 use Rattle.bcv_model.specs.declared.event.Act.{Act}
 use Rattle.bcv_model.specs.declared.event.Event.TheVariants as event
+use Rattle.bcv_model.specs.declared.reply.Reply.{Reply}
 use Rattle.bcv_model.specs.declared.reply.Said.{Said}
 use Rattle.bcv_slots.specs.declared.Slot.{Slot}
 use Rattle.bcv_slots.specs.Numbered.{item_at}
 use Rattle.bcv_world.specs.declared.place.Place.{Place}
 use Rattle.bcv_world.specs.declared.world.World.{World}
+use Rattle.bcv_world.specs.EventCaching.{EventCaches}
 use Rattle.bcv_world.specs.SetTroubles.{SetsAsTold, SetsTrouble}
 use Rattle.bcv_world.specs.Standing.{TakesEvent}
 use Rattle.bcv_world.specs.Tallies.{IsTally}
 use Rattle.bcv_world.specs.WorldForm.{IsWorld, PlaceWithin, last_of_more}
 use Rattle.bcv_world.proofs.ActForms.{act_in_form}
 use Rattle.bcv_world.proofs.EventsTaken.{acted_takes, acted_world, said_with}
-use Rattle.bcv_world.proofs.PlacesKept.{place_found, place_there, put_found}
+use Rattle.bcv_world.proofs.PlacesKept.{place_found, place_there, put_found, put_others}
 use Rattle.bcv_world.proofs.world.World.act.Goals as goal
 
 pub unreachable-requires : goal.unreachable-requires
@@ -89,3 +91,20 @@ returns-clause-sets g c =
     subst (λ (w : World). SetsAsTold c.args.self.now w (event.Of c.args.number c.args.act)) (sym c.say.ensures.only)
     (set_as_told c.args.number c.args.act c.args.self.now.places.items _ c.in-Some.place c.act-place.result.0 (sym c.in-Some.is ∙ c.take.ensures.found)
     (ap (item_at c.args.number) items ∙ put_found c.args.number c.args.self.now.places.items c.act-place.result.0 c.numbers_differ.ensures.none) c.act-place.ensures.sets)
+
+pub returns-clause-caches : goal.returns-clause-caches
+returns-clause-caches g c =
+    let n : ℕ = c.args.number in
+    let old : List (Slot Place) = c.args.self.now.places.items in
+    let new : Place = c.act-place.result.0 in
+    let items = c.add.ensures ∙ ap (λ (l : List (Slot Place)). l ++ record { number = n; item = new } ∷ []) (c.take.ensures.only c.requires.world.places_are.differ) in
+    subst (λ (r : Reply). EventCaches c.args.self.now c.say.new.self (event.Of n c.args.act) r) (sym (ap (λ (s : Said). s.reply) c.say.ensures.said))
+    (subst (λ (w : World). EventCaches c.args.self.now w (event.Of n c.args.act) c.act-place.result.1) (sym c.say.ensures.only)
+    (record {
+      before = c.in-Some.place;
+      after = new;
+      was = sym c.take.ensures.found ∙ c.in-Some.is;
+      becomes = ap (item_at n) items ∙ put_found n old new c.numbers_differ.ensures.none;
+      caches = c.act-place.ensures.caches;
+      others = λ m other. ap (item_at m) items ∙ put_others m n old new other;
+    }))

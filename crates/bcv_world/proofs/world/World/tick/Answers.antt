@@ -4,6 +4,7 @@ use Rattle.bcv_model.specs.declared.reply.Reply.TheVariants as reply
 use Rattle.bcv_model.specs.declared.reply.Said.{Said}
 use Rattle.bcv_world.specs.declared.tally.Tally.{Tally}
 use Rattle.bcv_world.specs.declared.world.World.{World}
+use Rattle.bcv_world.specs.EventCaching.{EventCaches}
 use Rattle.bcv_world.specs.Standing.{TakesEvent}
 use Rattle.bcv_world.specs.Tallies.{IsTally, tallied}
 use Rattle.bcv_world.specs.WorldForm.{IsWorld}
@@ -33,3 +34,7 @@ returns-clause-takes c =
     subst (λ (s : Said). TakesEvent c.args.self.now c.say.new.self (event.Tick c.args.seconds) s) (sym c.say.ensures.said)
     (subst (λ (w : World). TakesEvent c.args.self.now w (event.Tick c.args.seconds) (said_with None reply.Fine)) (sym c.say.ensures.only)
     (ticked_takes c.args.self.now _ c.args.seconds c.requires.world refl refl refl refl c.saturating_add-self.ensures (ap (λ k. k.moment) c.set.ensures)))
+
+pub returns-clause-caches : goal.returns-clause-caches
+returns-clause-caches c =
+    subst (λ (w : World). EventCaches c.args.self.now w (event.Tick c.args.seconds) c.say.result.reply) (sym c.say.ensures.only) (refl, refl)
