@@ -13,6 +13,8 @@ mod poller;
 #[cfg(test)]
 mod rivals;
 #[cfg(test)]
+mod shared;
+#[cfg(test)]
 mod snapshot;
 #[cfg(test)]
 mod upload;
