@@ -2,6 +2,14 @@
 #![tactic(auto)]
 
 #[cfg(test)]
-mod connections;
+mod bad_bytes;
+#[cfg(test)]
+mod container;
+#[cfg(test)]
+mod ends;
 #[cfg(test)]
 mod loopback;
+#[cfg(test)]
+mod served;
+#[cfg(test)]
+mod sessions;

@@ -1,10 +1,9 @@
-use bcv_base::{CountNames, Outside, SetClock};
-use bcv_client::{Client, Up};
-use bcv_daemon::{Daemon, serve_connections};
-use bcv_disk::MemDisk;
-use bcv_memstore::MemStore;
-use std::io::{Read, Write};
-use std::net::{TcpListener, TcpStream};
+ghost use Rattle.bcv_client.specs.InForm.{IsClient};
+
+use crate::served::{Served, empty};
+use bcv_daemon::serve_connections;
+use std::io::{self, Read, Write};
+use std::net::{SocketAddr, TcpListener, TcpStream};
 use std::test::Fail;
 
 // A poll, and then bytes that no message begins with.
@@ -13,32 +12,50 @@ const POLL: [u8; 13] = [0, 0, 0, 5, 1, 0, 0, 0, 0, 0, 0, 0, 4];
 // The poll is refused: `no-container`.
 const REFUSED: &[u8] = b"\0\0\0\x11\x40\0\0\0\0no-container";
 
+// A peer that polls.
+fn polls(rt: &HostRuntime, address: SocketAddr) -> io::Result<TcpStream> {
+    let mut peer = TcpStream::connect(rt, address)?;
+    peer.write_all(&POLL)?;
+    Ok(peer)
+}
+
+// Whether the peer's poll was refused and its connection ended.
+fn is_refused(rt: &HostRuntime, mut peer: TcpStream) -> io::Result<bool> {
+    let mut answer = Vec::new(rt.alloc());
+    peer.read_to_end(&mut answer)?;
+    Ok(answer.as_slice() == REFUSED)
+}
+
+// Serves so many connections.
+fn serve(rt: &HostRuntime, served: &mut Served, listener: &TcpListener, most: u64) -> u64
+    requires client { IsClient served.old.daemon.client }
+    ensures client { IsClient served.new.daemon.client }
+{
+    let Served { daemon, outside } = served;
+    serve_connections(rt.alloc(), daemon, outside, listener, most)
+}
+
 #[test]
 fn two_connections_one_after_the_other(rt: HostRuntime) -> Result<(), Fail> {
-    let alloc = rt.alloc();
-    let mut around = Outside {
-        store: MemStore::new(alloc),
-        clock: SetClock::new(0),
-        names: CountNames::new(),
-    };
+    let mut served = empty(rt.alloc())?;
     let listener = TcpListener::bind(&rt, "127.0.0.1:0")?;
     let address = listener.local_addr()?;
-    let mut first = TcpStream::connect(&rt, address)?;
-    let mut second = TcpStream::connect(&rt, address)?;
-    first.write_all(&POLL)?;
-    second.write_all(&POLL)?;
-    match Client::up(alloc, MemDisk::new(alloc), &mut around.names, 2) {
-        Up::Ready(client) => {
-            let mut daemon = Daemon::new(client);
-            let served = serve_connections(alloc, &mut daemon, &mut around, &listener, 2);
-            assert!(rt; served == 2);
-        }
-        Up::Refused(_, _) => return Err(Fail::new("not up")),
-    }
-    for mut stream in [first, second] {
-        let mut answer = Vec::new(alloc);
-        stream.read_to_end(&mut answer)?;
-        assert!(rt; answer.as_slice() == REFUSED);
+    let first = polls(&rt, address)?;
+    let second = polls(&rt, address)?;
+    assert!(rt; serve(&rt, &mut served, &listener, 2) == 2);
+    assert!(rt; is_refused(&rt, first)? && is_refused(&rt, second)?);
+    Ok(())
+}
+
+#[test]
+fn a_thousand_connections_over_loopback(rt: HostRuntime) -> Result<(), Fail> {
+    let mut served = empty(rt.alloc())?;
+    let listener = TcpListener::bind(&rt, "127.0.0.1:0")?;
+    let address = listener.local_addr()?;
+    for number in 0..1000u16 {
+        let peer = polls(&rt, address)?;
+        assert!(rt; serve(&rt, &mut served, &listener, 1) == 1, "{number}");
+        assert!(rt; is_refused(&rt, peer)?, "{number}");
     }
     Ok(())
 }
