@@ -46,16 +46,3 @@ fn two_connections_one_after_the_other(rt: HostRuntime) -> Result<(), Fail> {
     assert!(rt; is_refused(&rt, first)? && is_refused(&rt, second)?);
     Ok(())
 }
-
-#[test]
-fn a_thousand_connections_over_loopback(rt: HostRuntime) -> Result<(), Fail> {
-    let mut served = empty(rt.alloc())?;
-    let listener = TcpListener::bind(&rt, "127.0.0.1:0")?;
-    let address = listener.local_addr()?;
-    for number in 0..1000u16 {
-        let peer = polls(&rt, address)?;
-        assert!(rt; serve(&rt, &mut served, &listener, 1) == 1, "{number}");
-        assert!(rt; is_refused(&rt, peer)?, "{number}");
-    }
-    Ok(())
-}
