@@ -39,7 +39,7 @@ fn faults_end_a_connection(rt: HostRuntime) -> Result<(), Fail> {
     let alloc = rt.alloc();
     let mut served = made(alloc, ONE_PAGE, &[0xaa])?;
     let held = bytes_of(alloc, HELD)?;
-    for (failing_take, failing_give, end, count) in [
+    'rows: for (failing_take, failing_give, end, count) in [
         (2, 0, ServeEnd::ReadFault, 51),
         (0, 1, ServeEnd::WriteFault, 0),
         (1, 0, ServeEnd::ReadFault, 0),
