@@ -1,5 +1,5 @@
 -- What each command promises, by its words.
-use Rattle.std.proofs.Common.{◌≡◌, ◌≢◌, ◌↔◌, ℕ, List, [], Some, None, refl, sym, subst, ◌∙◌, arith}
+use Rattle.std.proofs.Common.{◌≡◌, ◌≢◌, ◌↔◌, ℕ, Bool, true, false, List, [], Some, None, refl, sym, ap, subst, ◌∙◌, arith}
 use Rattle.std.specs.Prelude.{Option}
 use Rattle.std.specs.Io.KnownBytes.{Appends, Consumes, IsAtEnd}
 use Rattle.std.proofs.KnownBytes.{Appends-nil, Consumes-nil}
@@ -8,7 +8,7 @@ use Rattle.bcv_commands.specs.declared.command.Command.{Command}
 use Rattle.bcv_commands.specs.declared.command.Command.TheVariants as command
 use Rattle.bcv_commands.specs.declared.status.Status.{Status}
 use Rattle.bcv_commands.specs.declared.status.Status.TheVariants as status
-use Rattle.bcv_runner.specs.Endings.{FaultCounted, StreamCauses}
+use Rattle.bcv_runner.specs.Endings.{FaultCounted, StreamCauses, is_store_fault}
 use Rattle.bcv_world.specs.declared.world.World.{World}
 use Rattle.bcv_top.specs.ClientCommands.{RunsAlone, UsesClient}
 use Rattle.bcv_top.specs.Commands.{RunsCommand}
@@ -70,21 +70,61 @@ nothing_causes s i o is = record { read = λ e. (let no_fault : status.BadWords 
 pub client_causes : (i j o p : ℕ) (s : Status) → StreamCauses i j o p s → HasCauses i j o p s
 client_causes i j o p s h = record { read = h.read; write = h.write }
 
--- ---- the disk
+-- ---- faults of what a client stands on
 
--- a count of faults stays where nothing failed
-pub stays_counted : (n : ℕ) (Failed : Type 0) → (Failed → ⊥) → FaultCounted n n Failed
-stays_counted n Failed none = record { later = omega arith; rose = λ f. absurd (none f) }
+-- such a fault, or that it is not known what became of a publication
+abbrev pub is_clients_fault : Status → Bool
+is_clients_fault status.StoreFault = true
+is_clients_fault status.DiskFault = true
+is_clients_fault status.NamesFault = true
+is_clients_fault status.ClockFault = true
+is_clients_fault (status.Unknown id) = true
+is_clients_fault _ = false
 
--- no script that is played meets a fault of the disk, and no words do
-pub replayed_disk : (s : Status) (w : Option World) (taken : List ℕ) (ended : Type 0) (written : List ℕ) → Replays s w taken ended written → s ≢ status.DiskFault
-replayed_disk s w taken ended written h e = let none : Replays status.DiskFault w taken ended written = subst (λ (x : Status). Replays x w taken ended written) e h in none
+-- no words, no script that is played and no script that is made meets one
+pub words_meet_none : (s : Status) → s ≡ status.BadWords → is_clients_fault s ≡ false
+words_meet_none s is = ap is_clients_fault is
 
-pub generated_disk : (n : ℕ) (s : Status) (w : Option World) (written : List ℕ) → Generates n s w written → s ≢ status.DiskFault
-generated_disk n s w written h e = let none : Generates n status.DiskFault w written = subst (λ (x : Status). Generates n x w written) e h in none
+pub replay_meets_none : (s : Status) (w : Option World) (taken : List ℕ) (ended : Type 0) (written : List ℕ) → Replays s w taken ended written → is_clients_fault s ≡ false
+replay_meets_none status.StoreFault w taken ended written h = absurd h
+replay_meets_none status.DiskFault w taken ended written h = absurd h
+replay_meets_none status.NamesFault w taken ended written h = absurd h
+replay_meets_none status.ClockFault w taken ended written h = absurd h
+replay_meets_none (status.Unknown id) w taken ended written h = absurd h
+replay_meets_none _ w taken ended written h = refl
 
-pub words_disk : (s : Status) → s ≡ status.BadWords → s ≢ status.DiskFault
-words_disk s is e = let no_fault : status.BadWords ≡ status.DiskFault = sym is ∙ e in cc
+pub generate_meets_none : (n : ℕ) (s : Status) (w : Option World) (written : List ℕ) → Generates n s w written → is_clients_fault s ≡ false
+generate_meets_none n status.StoreFault w written h = absurd h
+generate_meets_none n status.DiskFault w written h = absurd h
+generate_meets_none n status.NamesFault w written h = absurd h
+generate_meets_none n status.ClockFault w written h = absurd h
+generate_meets_none n (status.Unknown id) w written h = absurd h
+generate_meets_none n _ w written h = refl
+
+store_is_one : (s : Status) → is_store_fault s ≡ true → is_clients_fault s ≡ true
+store_is_one status.StoreFault is = refl
+store_is_one (status.Unknown id) is = refl
+store_is_one _ is = cc
+
+-- then each count stays
+stays : (n m : ℕ) (s : Status) (Failed : Type 0) → m ≡ n → is_clients_fault s ≡ false → (Failed → is_clients_fault s ≡ true) → FaultCounted n m Failed
+stays n m s Failed same none failed = record {
+  later = omega (arith, same);
+  rose = λ f. absurd (let e : false ≡ true = sym none ∙ failed f in cc);
+}
+
+module _ (n m : ℕ) (s : Status) (same : m ≡ n) (none : is_clients_fault s ≡ false) where
+  pub disk_stays : FaultCounted n m (s ≡ status.DiskFault)
+  disk_stays = stays n m s (s ≡ status.DiskFault) same none (λ is. ap is_clients_fault is)
+
+  pub store_stays : FaultCounted n m (is_store_fault s ≡ true)
+  store_stays = stays n m s (is_store_fault s ≡ true) same none (store_is_one s)
+
+  pub names_stay : FaultCounted n m (s ≡ status.NamesFault)
+  names_stay = stays n m s (s ≡ status.NamesFault) same none (λ is. ap is_clients_fault is)
+
+  pub clock_stays : FaultCounted n m (s ≡ status.ClockFault)
+  clock_stays = stays n m s (s ≡ status.ClockFault) same none (λ is. ap is_clients_fault is)
 
 -- ---- the client, and what no client touches
 

@@ -1,5 +1,5 @@
 -- The script that is made from a number is played: what its lines keep to, and how far a world has come.
-use Rattle.std.proofs.Common.{◌≡◌, ℕ, zero, suc, ◌+◌, ◌-◌, ◌^◌, ◌<◌, ◌≤◌, ◌/◌, ◌%◌, Bool, true, false, not, inr, Some, take, List, [], ◌∷◌, ◌++◌, length, length-append, refl, sym, ap, ◌∙◌, subst, append_assoc, append-nil, arith}
+use Rattle.std.proofs.Common.{◌≡◌, ℕ, zero, suc, ◌+◌, ◌-◌, ◌^◌, ◌<◌, ◌≤◌, ◌/◌, ◌%◌, Bool, true, false, not, inl, inr, Some, None, take, List, [], ◌∷◌, ◌++◌, length, length-append, refl, sym, ap, ◌∙◌, subst, append_assoc, append-nil, arith}
 use Rattle.std.proofs.Math.Nat.{mod-lt}
 use Rattle.std.specs.Prelude.{Option}
 use Rattle.std.specs.Io.KnownBytes.{Appends}
@@ -28,6 +28,7 @@ use Rattle.bcv_top.specs.Generated.{a_byte, a_name, advanced, an_event, asked, b
 use Rattle.bcv_top.specs.declared.output.Wrote.{Wrote}
 use Rattle.bcv_top.specs.declared.output.Wrote.TheVariants as wrote
 use Rattle.bcv_commands.specs.declared.status.Status.{Status}
+use Rattle.bcv_commands.specs.declared.status.Status.TheVariants as status
 use Rattle.bcv_top.specs.Led.{PlaysOn, is_no_memory, kept_at}
 use Rattle.bcv_top.specs.MadeRun.{Generates, Playing, PlaysEvent, PlaysMore, RanAll, status_by, summary_text}
 use Rattle.bcv_top.specs.Writing.{Writes}
@@ -213,3 +214,8 @@ generated_end b o n w bytes r s t kept all is by same left h =
     let world : kept ≡ kept_at (status_by r) (Some w) = left ∙ ap (λ (y : Status). kept_at y (Some w)) by in
     subst (λ (y : Status). Wrote_tally b o n y kept) (sym (same ∙ by))
     (subst (λ (y : Option World). Wrote_tally b o n (status_by r) y) (sym world) (generated_by b o n w bytes r all is h))
+
+-- no memory for the tally's text
+pub generated_nothing : (n : ℕ) (s : Status) (w : Option World) → s ≡ status.NoMemory → w ≡ None → Generates n s w []
+generated_nothing n s w is none =
+    subst (λ (x : Status). Generates n x w []) (sym is) (subst (λ (v : Option World). Generates n status.NoMemory v []) (sym none) (inl refl))

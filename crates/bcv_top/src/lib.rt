@@ -10,14 +10,14 @@
 //! told as `bcv_runner` tells it; and each status other than want of memory comes only where its cause is.
 #![tactic(auto)]
 
-ghost use Rattle.std.specs.Prelude.{◌≡◌, ℕ, ◌↔◌, false, List, None, Some, map, string_bytes};
+ghost use Rattle.std.specs.Prelude.{◌≡◌, ℕ, ◌↔◌, false, true, List, None, Some, map, string_bytes};
 ghost use Rattle.std.specs.Io.KnownBytes.{Appends, Consumes, IsAtEnd};
 ghost use Rattle.bcv_commands.specs.Commands.{command_of};
 ghost use Rattle.bcv_commands.specs.declared.command.Command.{Command};
 ghost use Rattle.bcv_keeprule.specs.Retention.{IsKeepRule};
 ghost use Rattle.bcv_runner.specs.CommandAsks.{around};
 ghost use Rattle.bcv_runner.specs.CommandRuns.{CommandRuns};
-ghost use Rattle.bcv_runner.specs.Endings.{FaultCounted};
+ghost use Rattle.bcv_runner.specs.Endings.{FaultCounted, is_store_fault};
 ghost use Rattle.bcv_top.specs.ClientCommands.{RunsAlone, UsesClient, ran_of};
 ghost use Rattle.bcv_top.specs.Commands.{RunsCommand};
 ghost use Rattle.bcv_top.specs.Headline.{HasCauses};
@@ -93,6 +93,12 @@ pub fn bcv_top<
         (O.faults out.old) (O.faults out.new) result.status }
     ensures disk { FaultCounted (D.shown disk).faults (D.shown result.disk).faults
         (result.status ≡ Status.DiskFault) }
+    ensures store { FaultCounted (S.shown outside.old.store).faults
+        (S.shown outside.new.store).faults (is_store_fault result.status ≡ true) }
+    ensures names { FaultCounted (N.shown outside.old.names).faults
+        (N.shown outside.new.names).faults (result.status ≡ Status.NamesFault) }
+    ensures clock { FaultCounted (C.shown outside.old.clock).faults
+        (C.shown outside.new.clock).faults (result.status ≡ Status.ClockFault) }
 {
     let Some(command) = read_words(words) else {
         return Ended {

@@ -1,6 +1,7 @@
-use Rattle.std.proofs.Common.{rules, ◌≡◌, None, map, refl, string_bytes, sym, ◌∙◌}
+use Rattle.std.proofs.Common.{rules, ◌≡◌, None, map, refl, string_bytes, sym, ap, ◌∙◌}
 use Rattle.bcv_top.proofs.CommandForms.{runs_over_client}
-use Rattle.bcv_top.proofs.Commanded.{client_causes, runs_client, runs_generate, runs_nothing, same_command, uses_alone, uses_client, words_taken}
+use Rattle.bcv_top.proofs.Commanded.{client_causes, clock_stays, disk_stays, generate_meets_none, is_clients_fault, names_stay, replay_meets_none, store_stays, words_meet_none, runs_client, runs_generate, runs_nothing, same_command, uses_alone, uses_client, words_taken}
+use Rattle.bcv_commands.specs.declared.status.Status.TheVariants as status
 use Rattle.bcv_top.proofs.bcv_top.Goals as goal
 
 pub returns-in_default-clause-runs : goal.returns-in_default-clause-runs
@@ -38,4 +39,46 @@ returns-in_default-command g c =
       alone = λ a. absurd (uses_alone _ k is uses a);
       client = λ q also used. rw (same_command _ k q is also) r;
       causes = client_causes _ _ _ _ _ c.run_command-ran.ensures.causes;
+      disk = c.run_command-ran.ensures.disk;
+      store = c.run_command-ran.ensures.store;
+      names = c.run_command-ran.ensures.names;
+      clock = c.run_command-ran.ensures.clock;
     }
+
+-- ---- faults
+
+pub returns-in_default-clause-disk : goal.returns-in_default-clause-disk
+returns-in_default-clause-disk g c = disk_stays (g.D.Disk.shown c.args.disk).faults _ status.BadWords refl (words_meet_none status.BadWords refl)
+
+pub returns-in_default-clause-store : goal.returns-in_default-clause-store
+returns-in_default-clause-store g c = store_stays (g.S.Store.shown c.args.outside.now.store).faults (g.S.Store.shown c.args.outside.now.store).faults status.BadWords refl (words_meet_none status.BadWords refl)
+
+pub returns-in_default-clause-names : goal.returns-in_default-clause-names
+returns-in_default-clause-names g c = names_stay (g.N.Names.shown c.args.outside.now.names).faults (g.N.Names.shown c.args.outside.now.names).faults status.BadWords refl (words_meet_none status.BadWords refl)
+
+pub returns-in_default-clause-clock : goal.returns-in_default-clause-clock
+returns-in_default-clause-clock g c = clock_stays (g.C.Clock.shown c.args.outside.now.clock).faults (g.C.Clock.shown c.args.outside.now.clock).faults status.BadWords refl (words_meet_none status.BadWords refl)
+
+pub returns-in-Replay-clause-disk : goal.returns-in-Replay-clause-disk
+returns-in-Replay-clause-disk g c = disk_stays (g.D.Disk.shown c.args.disk).faults _ c.with_disk.result.status (ap (λ d. (g.D.Disk.shown d).faults) c.with_disk.ensures.disk) (ap is_clients_fault c.with_disk.ensures.status ∙ replay_meets_none _ _ _ _ _ c.replay_top.ensures.replays.4)
+
+pub returns-in-Replay-clause-store : goal.returns-in-Replay-clause-store
+returns-in-Replay-clause-store g c = store_stays (g.S.Store.shown c.args.outside.now.store).faults (g.S.Store.shown c.args.outside.now.store).faults c.with_disk.result.status refl (ap is_clients_fault c.with_disk.ensures.status ∙ replay_meets_none _ _ _ _ _ c.replay_top.ensures.replays.4)
+
+pub returns-in-Replay-clause-names : goal.returns-in-Replay-clause-names
+returns-in-Replay-clause-names g c = names_stay (g.N.Names.shown c.args.outside.now.names).faults (g.N.Names.shown c.args.outside.now.names).faults c.with_disk.result.status refl (ap is_clients_fault c.with_disk.ensures.status ∙ replay_meets_none _ _ _ _ _ c.replay_top.ensures.replays.4)
+
+pub returns-in-Replay-clause-clock : goal.returns-in-Replay-clause-clock
+returns-in-Replay-clause-clock g c = clock_stays (g.C.Clock.shown c.args.outside.now.clock).faults (g.C.Clock.shown c.args.outside.now.clock).faults c.with_disk.result.status refl (ap is_clients_fault c.with_disk.ensures.status ∙ replay_meets_none _ _ _ _ _ c.replay_top.ensures.replays.4)
+
+pub returns-in-Generate-clause-disk : goal.returns-in-Generate-clause-disk
+returns-in-Generate-clause-disk g c = disk_stays (g.D.Disk.shown c.args.disk).faults _ c.with_disk-in-Generate.result.status (ap (λ d. (g.D.Disk.shown d).faults) c.with_disk-in-Generate.ensures.disk) (ap is_clients_fault c.with_disk-in-Generate.ensures.status ∙ generate_meets_none _ _ _ _ c.generate_top.ensures.generates.2)
+
+pub returns-in-Generate-clause-store : goal.returns-in-Generate-clause-store
+returns-in-Generate-clause-store g c = store_stays (g.S.Store.shown c.args.outside.now.store).faults (g.S.Store.shown c.args.outside.now.store).faults c.with_disk-in-Generate.result.status refl (ap is_clients_fault c.with_disk-in-Generate.ensures.status ∙ generate_meets_none _ _ _ _ c.generate_top.ensures.generates.2)
+
+pub returns-in-Generate-clause-names : goal.returns-in-Generate-clause-names
+returns-in-Generate-clause-names g c = names_stay (g.N.Names.shown c.args.outside.now.names).faults (g.N.Names.shown c.args.outside.now.names).faults c.with_disk-in-Generate.result.status refl (ap is_clients_fault c.with_disk-in-Generate.ensures.status ∙ generate_meets_none _ _ _ _ c.generate_top.ensures.generates.2)
+
+pub returns-in-Generate-clause-clock : goal.returns-in-Generate-clause-clock
+returns-in-Generate-clause-clock g c = clock_stays (g.C.Clock.shown c.args.outside.now.clock).faults (g.C.Clock.shown c.args.outside.now.clock).faults c.with_disk-in-Generate.result.status refl (ap is_clients_fault c.with_disk-in-Generate.ensures.status ∙ generate_meets_none _ _ _ _ c.generate_top.ensures.generates.2)
