@@ -21,7 +21,6 @@ use Rattle.bcv_proto.specs.declared.answer.Answer.TheVariants as answer
 use Rattle.bcv_proto.specs.declared.message.Message.{Message}
 use Rattle.bcv_proto.specs.declared.message.Message.TheVariants as message
 use Rattle.bcv_store.specs.StoreShown.{StoreShown, StoreTold}
-use Rattle.bcv_vfs.specs.declared.Span.{Span}
 use Rattle.bcv_daemon.specs.Responses.{AnsweredBy, AskedToEnd, Begins, Begun, Ends, InSession, IsCaused, Reads, ReplyCauses, Responds, Unasked, begun_answer, disk_faults, fine_answer, held_answer, is_no_memory, page_answer, polled_answer, range_answer, rows_answer}
 use Rattle.bcv_daemon.specs.Sessions.{txn_of}
 use Rattle.bcv_daemon.specs.declared.sessions.Session.{Session}
@@ -174,7 +173,7 @@ module _ {D : Type 0} {g : _} (told : DiskTold) (shown : D → DiskShown) (store
   refused_by : (a b : Point D g) (r x : Reply) → read_at.Refused r ≡ read_at.Refused x → ReplyCauses shown a b x → ReplyCauses shown a b r
   refused_by a b r x is causes = let e : r ≡ x = cc in subst (λ (y : Reply). ReplyCauses shown a b y) (sym e) causes
 
-  range : (o : Option Span) (txn : ℕ) (es : List Exchange) (into : List ℕ) (r : ReadAt) (a b : Point D g) → RangeOf o txn es into r
+  range : (o : Option _) (txn : ℕ) (es : List Exchange) (into : List ℕ) (r : ReadAt) (a b : Point D g) → RangeOf o txn es into r
       → Talks told shown store a es b → IsCaused shown a b (range_answer into r)
   range o txn es into read_at.Full a b x talk = tt
   range o txn es into (read_at.Short n) a b x talk = tt
