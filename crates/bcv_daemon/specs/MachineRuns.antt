@@ -1,5 +1,6 @@
 -- The talk with the client over a whole connection, and what it is in the machine.
-use Rattle.std.specs.Prelude.{ℕ, List, [], ◌∷◌, ◌++◌, inl, inr}
+use Rattle.std.proofs.Common.{inl, inr}
+use Rattle.std.specs.Prelude.{ℕ, List, [], ◌∷◌, ◌++◌}
 use Rattle.bcv_base.specs.declared.id.Id16.{Id16}
 use Rattle.bcv_client.specs.RangeAsks.{exchange}
 use Rattle.bcv_client.specs.Talk.{Exchange, Point, Talks}

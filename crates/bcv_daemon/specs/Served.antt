@@ -67,8 +67,8 @@ pub record Served {D : Type 0} {g : _} (told : DiskTold) (shown : D → DiskShow
   pub asked :
       exchanges
       ≡ turns_exchanges told shown store a [] turns mid sessions answered
-      ++ tried_exchanges told shown store mid last sessions left rest e tried
-      ++ ends_exchanges told shown store last left b closed
+      ++ (tried_exchanges told shown store mid last sessions left rest e tried
+      ++ ends_exchanges told shown store last left b closed)
   pub talk : Talks told shown store a exchanges b
   pub machine : IsMachineRun told shown store a exchanges b talk
   -- no count of faults has fallen
