@@ -131,7 +131,7 @@ module _ {D : Type 0} {g : _} (told : DiskTold) (shown : D → DiskShown) (store
   page a b _ causes = causes
 
   rows : (a b : Point D g) (r : Reply) → ReplyCauses shown a b r → IsCaused shown a b (rows_answer r)
-  rows a b (reply.Table rows pending) causes = tt
+  rows a b (reply.Table items pending) causes = tt
   rows a b _ causes = causes
 
   unasked : (a b : Point D g) (given : Answer) → is_no_memory given ≡ true → IsCaused shown a b given
