@@ -1,5 +1,5 @@
 -- A fault that an answer says was counted in the calls for its message.
-use Rattle.std.proofs.Common.{◌≡◌, ◌+◌, ◌^◌, ◌≤◌, ◌⊎◌, ℕ, false, true, List, [], ◌∷◌, ◌++◌, Option, Some, None, refl, sym, subst, arith, inl, inr}
+use Rattle.std.proofs.Common.{◌≡◌, ◌≤◌, ◌⊎◌, ℕ, false, true, List, [], ◌∷◌, ◌++◌, Option, Some, None, refl, sym, subst, arith, inl, inr}
 use Rattle.bcv_base.specs.Drawn.{NamesShown}
 use Rattle.bcv_base.specs.Faults.{Rose}
 use Rattle.bcv_base.specs.Moments.{ClockShown}
@@ -9,8 +9,6 @@ use Rattle.bcv_client.specs.RangeReads.{RangeOf}
 use Rattle.bcv_client.specs.Talk.{Exchange, Exchanged, Point, Talks}
 use Rattle.bcv_client.specs.declared.byte_ranges.ReadAt.{ReadAt}
 use Rattle.bcv_client.specs.declared.byte_ranges.ReadAt.TheVariants as read_at
-use Rattle.bcv_client.specs.declared.client.Client.{Client}
-use Rattle.bcv_clientlog.specs.LogParts.{log_disk}
 use Rattle.bcv_disk.specs.DiskShown.{DiskShown, DiskTold}
 use Rattle.bcv_model.specs.declared.ask.Ask.{Ask}
 use Rattle.bcv_model.specs.declared.ask.Ask.TheVariants as ask
@@ -21,8 +19,8 @@ use Rattle.bcv_proto.specs.declared.answer.Answer.TheVariants as answer
 use Rattle.bcv_proto.specs.declared.message.Message.{Message}
 use Rattle.bcv_proto.specs.declared.message.Message.TheVariants as message
 use Rattle.bcv_store.specs.StoreShown.{StoreShown, StoreTold}
-use Rattle.bcv_vfs.specs.declared.Span.{Span}
-use Rattle.bcv_daemon.specs.Responses.{AnsweredBy, AskedToEnd, Begins, Begun, Ends, InSession, IsCaused, Reads, ReplyCauses, Responds, Unasked, begun_answer, disk_faults, fine_answer, held_answer, is_no_memory, page_answer, polled_answer, range_answer, rows_answer}
+use Rattle.bcv_talks.specs.TalkTotals.{disk_faults}
+use Rattle.bcv_daemon.specs.Responses.{AnsweredBy, AskedToEnd, Begins, Begun, Ends, InSession, IsCaused, Reads, ReplyCauses, Responds, Unasked, begun_answer, fine_answer, held_answer, is_no_memory, page_answer, polled_answer, range_answer, rows_answer}
 use Rattle.bcv_daemon.specs.Sessions.{txn_of}
 use Rattle.bcv_daemon.specs.declared.sessions.Session.{Session}
 
@@ -64,13 +62,13 @@ module _ {D : Type 0} {g : _} (told : DiskTold) (shown : D → DiskShown) (store
   talk_counts (e ∷ es) a b talk =
       counts_on a.store talk.0.store b.store a.names talk.0.names b.names a.clock talk.0.clock b.clock talk.1.counted (talk_counts es talk.0 b talk.2)
 
-  disk_same : (a b : Point D g) → b ≡ a → disk_faults shown a ≤ disk_faults shown b
-  disk_same a b is = subst (λ (p : Point D g). disk_faults shown a ≤ disk_faults shown p) (sym is) (same (disk_faults shown a))
+  disk_same : (a b : Point D g) → b ≡ a → disk_faults shown a.client ≤ disk_faults shown b.client
+  disk_same a b is = subst (λ (p : Point D g). disk_faults shown a.client ≤ disk_faults shown p.client) (sym is) (same (disk_faults shown a.client))
 
-  pub disk_counts : (es : List Exchange) (a b : Point D g) → Talks told shown store a es b → disk_faults shown a ≤ disk_faults shown b
+  pub disk_counts : (es : List Exchange) (a b : Point D g) → Talks told shown store a es b → disk_faults shown a.client ≤ disk_faults shown b.client
   disk_counts [] a b talk = disk_same a b talk
   disk_counts (e ∷ es) a b talk =
-      through (disk_faults shown a) (disk_faults shown talk.0) (disk_faults shown b) talk.1.disk.later (disk_counts es talk.0 b talk.2)
+      through (disk_faults shown a.client) (disk_faults shown talk.0.client) (disk_faults shown b.client) talk.1.disk.later (disk_counts es talk.0 b talk.2)
 
   split : (es fs : List Exchange) (a b : Point D g) → Talks told shown store a (es ++ fs) b
       → (m : Point D g) × Talks told shown store a es m × Talks told shown store m fs b
@@ -82,7 +80,7 @@ module _ {D : Type 0} {g : _} (told : DiskTold) (shown : D → DiskShown) (store
 
   since : (es : List Exchange) (a m b : Point D g) (r : Reply) → Talks told shown store a es m → ReplyCauses shown m b r → ReplyCauses shown a b r
   since es a m b r talk causes = record {
-    disk = λ is. rose_later (disk_faults shown a) (disk_faults shown m) (disk_faults shown b) (disk_counts es a m talk) (causes.disk is);
+    disk = λ is. rose_later (disk_faults shown a.client) (disk_faults shown m.client) (disk_faults shown b.client) (disk_counts es a m talk) (causes.disk is);
     others = others_since a.store m.store b.store a.names m.names b.names a.clock m.clock b.clock r (talk_counts es a m talk) causes.others;
   }
 
@@ -132,7 +130,7 @@ module _ {D : Type 0} {g : _} (told : DiskTold) (shown : D → DiskShown) (store
   page a b _ causes = causes
 
   rows : (a b : Point D g) (r : Reply) → ReplyCauses shown a b r → IsCaused shown a b (rows_answer r)
-  rows a b (reply.Table rows pending) causes = tt
+  rows a b (reply.Table items pending) causes = tt
   rows a b _ causes = causes
 
   unasked : (a b : Point D g) (given : Answer) → is_no_memory given ≡ true → IsCaused shown a b given
@@ -174,7 +172,7 @@ module _ {D : Type 0} {g : _} (told : DiskTold) (shown : D → DiskShown) (store
   refused_by : (a b : Point D g) (r x : Reply) → read_at.Refused r ≡ read_at.Refused x → ReplyCauses shown a b x → ReplyCauses shown a b r
   refused_by a b r x is causes = let e : r ≡ x = cc in subst (λ (y : Reply). ReplyCauses shown a b y) (sym e) causes
 
-  range : (o : Option Span) (txn : ℕ) (es : List Exchange) (into : List ℕ) (r : ReadAt) (a b : Point D g) → RangeOf o txn es into r
+  range : (o : Option _) (txn : ℕ) (es : List Exchange) (into : List ℕ) (r : ReadAt) (a b : Point D g) → RangeOf o txn es into r
       → Talks told shown store a es b → IsCaused shown a b (range_answer into r)
   range o txn es into read_at.Full a b x talk = tt
   range o txn es into (read_at.Short n) a b x talk = tt

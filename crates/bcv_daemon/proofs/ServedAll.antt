@@ -65,7 +65,7 @@ module _ {D : Type 0} {g : _} (told : DiskTold) (shown : D → DiskShown) (store
         talk = talk;
         machine = λ mine used moment f tells disk_tells stands honest new. law a d (first ++ (next ++ last)) talk mine used moment f refl tells disk_tells stands honest new;
         counted = talk_counts told shown store (first ++ (next ++ last)) a d talk;
-        disk = disk_counts told shown store (first ++ (next ++ last)) a d talk;
+        disk_counted = disk_counts told shown store (first ++ (next ++ last)) a d talk;
       }
 
   pub served : (a b d : Point D g) (old new : Connection) (taken written : List ℕ) (AtEnd : Type 0) (e : ServeEnd) → IsFresh old
@@ -113,7 +113,7 @@ module _ {D : Type 0} {g : _} (told : DiskTold) (shown : D → DiskShown) (store
     talk = refl;
     machine = λ mine used moment f tells disk_tells stands honest new. law a a [] refl mine used moment f refl tells disk_tells stands honest new;
     counted = talk_counts told shown store [] a a refl;
-    disk = disk_counts told shown store [] a a refl;
+    disk_counted = disk_counts told shown store [] a a refl;
   }
 
   -- one connection more is served

@@ -10,8 +10,6 @@ use Rattle.bcv_model.specs.declared.ask.Ask.TheVariants as ask
 use Rattle.bcv_store.specs.StoreShown.{StoreTold}
 use Rattle.bcv_talks.specs.TalkRuns.{NamesAreNew, OthersAreHonest, PointStands, TalkRun}
 use Rattle.bcv_daemon.specs.Connections.{EndsAll, RunsOut, Turn, Turns}
-use Rattle.bcv_daemon.specs.declared.connection.ServeEnd.{ServeEnd}
-use Rattle.bcv_daemon.specs.declared.connection.ServeEnd.TheVariants as end
 use Rattle.bcv_daemon.specs.declared.sessions.Session.{Session}
 
 -- ---- what the client was asked

@@ -2,7 +2,6 @@
 use Rattle.std.specs.Prelude.{◌≡◌, ◌⊎◌, ◌+◌, ℕ, Bool, true, false, cond, nat_le, List, [], ◌∷◌, ◌++◌, length, take, Option, Some, None, option_map}
 use Rattle.bcv_base.specs.Faults.{Rose}
 use Rattle.bcv_client.specs.CallFaults.{CallCauses}
-use Rattle.bcv_clientlog.specs.LogParts.{log_disk}
 use Rattle.bcv_disk.specs.DiskShown.{DiskShown, DiskTold}
 use Rattle.bcv_machine.specs.Step.{is_task}
 use Rattle.bcv_model.specs.declared.ask.Ask.{Ask}
@@ -15,6 +14,7 @@ use Rattle.bcv_proto.specs.declared.answer.Answer.TheVariants as answer
 use Rattle.bcv_proto.specs.declared.message.Message.{Message}
 use Rattle.bcv_proto.specs.declared.message.Message.TheVariants as message
 use Rattle.bcv_store.specs.StoreShown.{StoreTold}
+use Rattle.bcv_talks.specs.TalkTotals.{disk_faults}
 use Rattle.bcv_client.specs.Transactions.{opened_as}
 use Rattle.bcv_client.specs.declared.client.Client.{Client}
 use Rattle.bcv_client.specs.RangeAsks.{exchange}
@@ -142,13 +142,9 @@ Unasked ss later es given = (es ≡ []) × (later ≡ ss) × (is_no_memory given
 
 -- ---- the causes of an answer
 
--- how often the disk of the client has failed
-abbrev pub disk_faults : {D : Type 0} {g : _} → (D → DiskShown) → Point D g → ℕ
-disk_faults shown p = (shown (log_disk p.client.ledger.log)).faults
-
 -- a reply says a fault of the disk, the store, the names or the clock only where its count rose
 pub record ReplyCauses {D : Type 0} {g : _} (shown : D → DiskShown) (a b : Point D g) (r : Reply) : Type 0 where
-  pub disk : r ≡ reply.DiskFault → Rose (disk_faults shown a) (disk_faults shown b)
+  pub disk : r ≡ reply.DiskFault → Rose (disk_faults shown a.client) (disk_faults shown b.client)
   pub others : CallCauses a.store b.store a.names b.names a.clock b.clock r
 
 -- so does an answer that refuses with it

@@ -8,7 +8,7 @@ use Rattle.bcv_store.specs.StoreShown.{StoreTold}
 use Rattle.bcv_daemon.specs.Connections.{AreBelow, EndsAll, IsNoFront, RunsOut, Turn, Turns, answers_of, messages_of}
 use Rattle.bcv_client.specs.CallFaults.{CountsOn}
 use Rattle.bcv_client.specs.Talk.{Exchange, Point, Talks}
-use Rattle.bcv_daemon.specs.Responses.{disk_faults}
+use Rattle.bcv_talks.specs.TalkTotals.{disk_faults}
 use Rattle.bcv_daemon.specs.MachineRuns.{IsMachineRun, ends_exchanges, turns_exchanges, untold_exchanges}
 use Rattle.bcv_daemon.specs.declared.connection.ServeEnd.{ServeEnd}
 use Rattle.bcv_daemon.specs.declared.connection.ServeEnd.TheVariants as end
@@ -73,7 +73,7 @@ pub record Served {D : Type 0} {g : _} (told : DiskTold) (shown : D → DiskShow
   pub machine : IsMachineRun told shown store a exchanges b talk
   -- no count of faults has fallen
   pub counted : CountsOn a.store b.store a.names b.names a.clock b.clock
-  pub disk : disk_faults shown a ≤ disk_faults shown b
+  pub disk_counted : disk_faults shown a.client ≤ disk_faults shown b.client
 
 -- a fault is answered only where the count of that side rose
 pub record ServeCauses (taken later_taken given later_given : ℕ) (e : ServeEnd) : Type 0 where

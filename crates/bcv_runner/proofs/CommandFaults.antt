@@ -1,5 +1,5 @@
 -- A status that says a fault ends a command only where the count of that fault rose over the whole command.
-use Rattle.std.proofs.Common.{◌≡◌, ◌∙◌, ◌⊎◌, ◌+◌, ◌^◌, ℕ, Bool, true, false, List, [], ◌∷◌, ◌++◌, Option, Some, None, MatchOption, Result, Ok, Err, refl, sym, ap, subst, append_assoc, inl, inr}
+use Rattle.std.proofs.Common.{◌≡◌, ◌∙◌, ℕ, Bool, true, false, List, [], ◌∷◌, ◌++◌, Option, Some, None, MatchOption, Result, Ok, Err, refl, sym, ap, subst, append_assoc, inl, inr}
 use Rattle.bcv_base.specs.Faults.{Rose}
 use Rattle.bcv_base.specs.declared.id.Id16.{Id16}
 use Rattle.bcv_client.specs.RangeAsks.{PageAsked, exchange}
@@ -26,57 +26,56 @@ use Rattle.bcv_store.specs.StoreShown.{StoreTold}
 use Rattle.bcv_vfs.specs.declared.Span.{Span}
 use Rattle.bcv_runner.specs.CommandAsks.{AfterPoll, Around, AsksLast, CommitsFilled, OperationAsks, PollsFirst, PublishAsks, StepsToEnd, TaskAsks, is_polled, point_of, after_resolve, task_of, unknown_of}
 use Rattle.bcv_runner.specs.CommandRuns.{AfterInput, OperationRuns}
-use Rattle.bcv_runner.specs.CommandTalks.{EndsTalk}
 use Rattle.bcv_runner.specs.Endings.{FaultCounted, IsCutOff, Outputs, ending_by, ending_of, is_store_fault, is_success, status_of, stop_of, output_of}
 use Rattle.bcv_runner.specs.Operations.{Prepares, file_ending, operation_of, pairs_ending}
 use Rattle.bcv_runner.specs.ReadAsks.{AfterRange, DatabaseIsRead, RangeIsRead, bytes_read, txn_of}
 use Rattle.bcv_runner.specs.declared.ending.Ending.{Ending}
 use Rattle.bcv_runner.specs.declared.operation.Operation.{Operation}
 use Rattle.bcv_runner.specs.declared.operation.Operation.TheVariants as op
-use Rattle.bcv_runner.proofs.FaultCounts.{Faults, Later, RoseBy, RoseFor, call_later, call_rose, down_later, faults_at, faults_with, later_still, since, stay, stays_down, until, up_later}
+use Rattle.bcv_runner.proofs.FaultCounts.{FaultCounts, NoFewer, RoseBy, RoseFor, call_later, call_rose, down_later, faults_at, faults_with, later_still, since, stay, stays_down, until, up_later}
 
 -- ---- the last reply
 
 -- a command that ends by a reply has its status, or one that says no fault
-ended_by : (f g : Faults) (o : Option Status) (success : Bool) (r : Reply) → MatchOption o (Unit {0}) (RoseFor f g)
+ended_by : (f g : FaultCounts) (o : Option Status) (success : Bool) (r : Reply) → MatchOption o (Unit {0}) (RoseFor f g)
     → RoseFor f g (status_of (ending_by o success r))
 ended_by f g (Some s) success r rose = rose
 ended_by f g None true r rose = tt
 ended_by f g None false r rose = tt
 
-ended_so : (f g : Faults) (resolves : Bool) (r : Reply) (e : Ending) → e ≡ ending_of resolves r → RoseBy f g r → RoseFor f g (status_of e)
+ended_so : (f g : FaultCounts) (resolves : Bool) (r : Reply) (e : Ending) → e ≡ ending_of resolves r → RoseBy f g r → RoseFor f g (status_of e)
 ended_so f g resolves r e by rose =
     subst (λ (x : Ending). RoseFor f g (status_of x)) (sym by) (ended_by f g (stop_of r) (is_success resolves r) r rose)
 
 -- a resolve's fault is that of the publication
-resolved : (f g : Faults) (id : Id16) (found : Reply) → RoseBy f g found → RoseBy f g (after_resolve id found)
+resolved : (f g : FaultCounts) (id : Id16) (found : Reply) → RoseBy f g found → RoseBy f g (after_resolve id found)
 resolved f g id reply.StoreFault rose = rose
 resolved f g id _ rose = rose
 
 -- a range is refused with this reply
-refused_by : (f h : Faults) (r x : Reply) → read_at.Refused r ≡ read_at.Refused x → RoseBy f h x → RoseBy f h r
+refused_by : (f h : FaultCounts) (r x : Reply) → read_at.Refused r ≡ read_at.Refused x → RoseBy f h x → RoseBy f h r
 refused_by f h r x is rose = let same : r ≡ x = cc in subst (λ (y : Reply). RoseBy f h y) (sym same) rose
 
 -- ---- the output and the input
 
-cut_off : (f g : Faults) (s : Status) (text written : List ℕ) → IsCutOff s text written → RoseFor f g s
+cut_off : (f g : FaultCounts) (s : Status) (text written : List ℕ) → IsCutOff s text written → RoseFor f g s
 cut_off f g status.WriteFault text written cut = tt
 cut_off f g status.NoMemory text written cut = tt
 cut_off f g _ text written cut = absurd cut
 
-as_ended : (f g : Faults) (e : Ending) (s : Status) (written : List ℕ) → Outputs e s written → RoseFor f g (status_of e) → RoseFor f g s
+as_ended : (f g : FaultCounts) (e : Ending) (s : Status) (written : List ℕ) → Outputs e s written → RoseFor f g (status_of e) → RoseFor f g s
 as_ended f g e s written output rose = elim output [
   | inl whole ↦ subst (λ (t : Status). RoseFor f g t) (sym whole.0) rose
   | inr cut ↦ cut_off f g s (output_of e) written cut
 ]
 
-file_ends : (f g : Faults) (why : FileFault) → RoseFor f g (status_of (file_ending why))
+file_ends : (f g : FaultCounts) (why : FileFault) → RoseFor f g (status_of (file_ending why))
 file_ends f g (file.BadImage at) = tt
 file_ends f g file.TooLong = tt
 file_ends f g file.ReadFault = tt
 file_ends f g file.NoMemory = tt
 
-pairs_end : (f g : Faults) (why : PairsFault) → RoseFor f g (status_of (pairs_ending why))
+pairs_end : (f g : FaultCounts) (why : PairsFault) → RoseFor f g (status_of (pairs_ending why))
 pairs_end f g (pairs.BadScript line at) = tt
 pairs_end f g pairs.TooLong = tt
 pairs_end f g pairs.ReadFault = tt
@@ -86,7 +85,7 @@ no_input : (o : Option Operation) (r : Result Operation Ending) (e : Ending) →
 no_input None r e ok err = ok
 no_input (Some x) r e ok err = cc
 
-input_ends : (f g : Faults) (c : Command) (e : Ending) (taken : List ℕ) (AtEnd : Type 0) → Prepares c (Err e) taken AtEnd → RoseFor f g (status_of e)
+input_ends : (f g : FaultCounts) (c : Command) (e : Ending) (taken : List ℕ) (AtEnd : Type 0) → Prepares c (Err e) taken AtEnd → RoseFor f g (status_of e)
 input_ends f g (command.New db) e taken AtEnd read = subst (λ (x : Ending). RoseFor f g (status_of x)) (sym read.1) (file_ends f g read.0)
 input_ends f g (command.Commit db size) e taken AtEnd read = subst (λ (x : Ending). RoseFor f g (status_of x)) (sym read.1) (pairs_end f g read.0)
 input_ends f g c e taken AtEnd read = absurd (no_input (operation_of c) (Err e) e read.1 refl)
@@ -103,10 +102,10 @@ pub record EndsBy {D : Type 0} {g : _} (told : DiskTold) (shown : D → DiskShow
 
 module _ {D : Type 0} {g : Ghosts D} (told : DiskTold) (shown : D → DiskShown) (store : StoreTold) where
   -- the same point
-  stay_at : (a b : Point D g) → b ≡ a → Later (faults_at shown a) (faults_at shown b)
-  stay_at a b is = subst (λ (p : Point D g). Later (faults_at shown a) (faults_at shown p)) (sym is) (stay (faults_at shown a))
+  stay_at : (a b : Point D g) → b ≡ a → NoFewer (faults_at shown a) (faults_at shown b)
+  stay_at a b is = subst (λ (p : Point D g). NoFewer (faults_at shown a) (faults_at shown p)) (sym is) (stay (faults_at shown a))
 
-  talk_later : (es : List Exchange) (a b : Point D g) → Talks told shown store a es b → Later (faults_at shown a) (faults_at shown b)
+  talk_later : (es : List Exchange) (a b : Point D g) → Talks told shown store a es b → NoFewer (faults_at shown a) (faults_at shown b)
   talk_later [] a b talk = stay_at a b talk
   talk_later (e ∷ es) a b talk =
       later_still (faults_at shown a) (faults_at shown talk.0) (faults_at shown b) (call_later told shown store a talk.0 e talk.1) (talk_later es talk.0 b talk.2)
@@ -143,13 +142,13 @@ module _ {D : Type 0} {g : Ghosts D} (told : DiskTold) (shown : D → DiskShown)
       by_start q asks.0 r asks.1 a b (task_of asks.0) asks.3 (subst (λ (xs : List Exchange). Talks told shown store a xs b) asks.2 talk)
 
   -- what rose in the last part of a talk, or in the first one, rose in the whole of it
-  since_reply : (a mid b : Point D g) (r : Reply) (o : Option Status) → Later (faults_at shown a) (faults_at shown mid)
+  since_reply : (a mid b : Point D g) (r : Reply) (o : Option Status) → NoFewer (faults_at shown a) (faults_at shown mid)
       → MatchOption o (Unit {0}) (RoseFor (faults_at shown mid) (faults_at shown b)) → MatchOption o (Unit {0}) (RoseFor (faults_at shown a) (faults_at shown b))
   since_reply a mid b r None later rose = tt
   since_reply a mid b r (Some s) later rose = since (faults_at shown a) (faults_at shown mid) (faults_at shown b) s later rose
 
   until_reply : (a mid b : Point D g) (r : Reply) (o : Option Status) → MatchOption o (Unit {0}) (RoseFor (faults_at shown a) (faults_at shown mid))
-      → Later (faults_at shown mid) (faults_at shown b) → MatchOption o (Unit {0}) (RoseFor (faults_at shown a) (faults_at shown b))
+      → NoFewer (faults_at shown mid) (faults_at shown b) → MatchOption o (Unit {0}) (RoseFor (faults_at shown a) (faults_at shown b))
   until_reply a mid b r None rose later = tt
   until_reply a mid b r (Some s) rose later = until (faults_at shown a) (faults_at shown mid) (faults_at shown b) s rose later
 
@@ -165,7 +164,7 @@ module _ {D : Type 0} {g : Ghosts D} (told : DiskTold) (shown : D → DiskShown)
 
   by_unknown : (published r : Reply) (more : List Exchange) (a m b : Point D g) (o : Option Id16)
       → MatchOption o ((more ≡ []) × (r ≡ published)) (λ id. (found : Reply) × TaskAsks ask.Resolve more found × (r ≡ after_resolve id found))
-      → RoseBy (faults_at shown a) (faults_at shown m) published → Later (faults_at shown a) (faults_at shown m) → Talks told shown store m more b
+      → RoseBy (faults_at shown a) (faults_at shown m) published → NoFewer (faults_at shown a) (faults_at shown m) → Talks told shown store m more b
       → RoseBy (faults_at shown a) (faults_at shown b) r
   by_unknown published r more a m b None known rose later talk =
       subst (λ (x : Reply). RoseBy (faults_at shown a) (faults_at shown b) x) (sym known.1)
@@ -196,7 +195,7 @@ module _ {D : Type 0} {g : Ghosts D} (told : DiskTold) (shown : D → DiskShown)
       (ended_so (faults_at shown a) (faults_at shown mid) false r e by rose) (stay_at mid b stays)
 
   after_poll : (Next : Point D g → List Exchange → Ending → Point D g → Type 0) → Counts Next → (polled : Bool) (r : Reply) (a mid : Point D g) (more : List Exchange) (e : Ending)
-      (b : Point D g) → AfterPoll Next polled r mid more e b → RoseBy (faults_at shown a) (faults_at shown mid) r → Later (faults_at shown a) (faults_at shown mid)
+      (b : Point D g) → AfterPoll Next polled r mid more e b → RoseBy (faults_at shown a) (faults_at shown mid) r → NoFewer (faults_at shown a) (faults_at shown mid)
       → RoseFor (faults_at shown a) (faults_at shown b) (status_of e)
   after_poll Next counts true r a mid more e b after rose later =
       since (faults_at shown a) (faults_at shown mid) (faults_at shown b) (status_of e) later (counts mid more e b after)
@@ -258,7 +257,7 @@ module _ {D : Type 0} {g : Ghosts D} (told : DiskTold) (shown : D → DiskShown)
 
   by_begun : (off len : ℕ) (begun : Reply) (o : Option ℕ) (a mid : Point D g) (more : List Exchange) (e : Ending) (b : Point D g)
       → MatchOption o ((more ≡ []) × (e ≡ ending_of false begun) × (b ≡ mid)) (λ txn. RangeIsRead told shown store off len txn mid more e b)
-      → RoseBy (faults_at shown a) (faults_at shown mid) begun → Later (faults_at shown a) (faults_at shown mid)
+      → RoseBy (faults_at shown a) (faults_at shown mid) begun → NoFewer (faults_at shown a) (faults_at shown mid)
       → RoseFor (faults_at shown a) (faults_at shown b) (status_of e)
   by_begun off len begun None a mid more e b after rose later = by_last begun e a mid b rose after.1 after.2
   by_begun off len begun (Some txn) a mid more e b after rose later =
@@ -288,15 +287,15 @@ module _ {D : Type 0} {g : Ghosts D} (told : DiskTold) (shown : D → DiskShown)
   -- ---- a command
 
   runs_later : (o : Operation) (disk : D) (before after : Around) (e : Ending) (back : D) → OperationRuns g told shown store o disk before after e back
-      → Later (faults_with shown disk before) (faults_with shown back after)
+      → NoFewer (faults_with shown disk before) (faults_with shown back after)
   runs_later o disk before after e back runs = elim runs.either [
     | inl x ↦
         let f = faults_with shown disk before in
         let h = faults_with shown (log_disk x.start.ledger.log) (record before { names = x.names }) in
         let i = faults_with shown (log_disk x.asks.end.ledger.log) after in
-        let talk : Later h i =
+        let talk : NoFewer h i =
         talk_later x.asks.talk.exchanges (point_of x.start (record before { names = x.names })) (point_of x.asks.end after) x.asks.talk.talks in
-        subst (λ (d : D). Later f (faults_with shown d after)) (sym x.asks.down.is)
+        subst (λ (d : D). NoFewer f (faults_with shown d after)) (sym x.asks.down.is)
         (later_still f h i (up_later g told shown disk before x.names x.start x.up) talk)
     | inr x ↦ down_later g told shown disk back before after e x
   ]
@@ -317,20 +316,20 @@ module _ {D : Type 0} {g : Ghosts D} (told : DiskTold) (shown : D → DiskShown)
 
 -- nothing around has changed
 unmoved : {D : Type 0} (shown : D → DiskShown) (disk back : D) (before after : Around) → after ≡ before → back ≡ disk
-    → Later (faults_with shown disk before) (faults_with shown back after)
+    → NoFewer (faults_with shown disk before) (faults_with shown back after)
 unmoved {D = D} shown disk back before after around same =
-    subst (λ (d : D). Later (faults_with shown disk before) (faults_with shown d after)) (sym same)
-    (subst (λ (x : Around). Later (faults_with shown disk before) (faults_with shown disk x)) (sym around) (stay (faults_with shown disk before)))
+    subst (λ (d : D). NoFewer (faults_with shown disk before) (faults_with shown d after)) (sym same)
+    (subst (λ (x : Around). NoFewer (faults_with shown disk before) (faults_with shown disk x)) (sym around) (stay (faults_with shown disk before)))
 
 -- the counts of a whole command
-pub record Counted (f g : Faults) (s : Status) : Type 0 where
-  pub later : Later f g
+pub record EndCounts (f g : FaultCounts) (s : Status) : Type 0 where
+  pub later : NoFewer f g
   pub rose : RoseFor f g s
 
 by_input : {D : Type 0} (g : Ghosts D) (told : DiskTold) (shown : D → DiskShown) (store : StoreTold) (c : Command) (prepared : Result Operation Ending) (taken : List ℕ) (AtEnd : Type 0) (disk : D) (before after : Around) (e : Ending) (back : D)
     → Prepares c prepared taken AtEnd
     → AfterInput (λ (o : Operation) (x : Ending) (d : D). OperationRuns g told shown store o disk before after x d) prepared disk before after e back
-    → Counted (faults_with shown disk before) (faults_with shown back after) (status_of e)
+    → EndCounts (faults_with shown disk before) (faults_with shown back after) (status_of e)
 by_input g told shown store c (Ok o) taken AtEnd disk before after e back input runs = record {
   later = runs_later told shown store o disk before after e back runs;
   rose = runs_rose told shown store o disk before after e back runs;
@@ -344,24 +343,24 @@ by_input g told shown store c (Err why) taken AtEnd disk before after e back inp
 
 -- ---- each fault by itself
 
-of_disk : (f g : Faults) (s : Status) → Counted f g s → FaultCounted f.disk g.disk (s ≡ status.DiskFault)
+of_disk : (f g : FaultCounts) (s : Status) → EndCounts f g s → FaultCounted f.disk g.disk (s ≡ status.DiskFault)
 of_disk f g s counted = record { later = counted.later.disk; rose = λ is. subst (λ (t : Status). RoseFor f g t) is counted.rose }
 
-of_names : (f g : Faults) (s : Status) → Counted f g s → FaultCounted f.names g.names (s ≡ status.NamesFault)
+of_names : (f g : FaultCounts) (s : Status) → EndCounts f g s → FaultCounted f.names g.names (s ≡ status.NamesFault)
 of_names f g s counted = record { later = counted.later.names; rose = λ is. subst (λ (t : Status). RoseFor f g t) is counted.rose }
 
-of_clock : (f g : Faults) (s : Status) → Counted f g s → FaultCounted f.clock g.clock (s ≡ status.ClockFault)
+of_clock : (f g : FaultCounts) (s : Status) → EndCounts f g s → FaultCounted f.clock g.clock (s ≡ status.ClockFault)
 of_clock f g s counted = record { later = counted.later.clock; rose = λ is. subst (λ (t : Status). RoseFor f g t) is counted.rose }
 
-store_rose : (f g : Faults) (s : Status) → RoseFor f g s → is_store_fault s ≡ true → Rose f.store g.store
+store_rose : (f g : FaultCounts) (s : Status) → RoseFor f g s → is_store_fault s ≡ true → Rose f.store g.store
 store_rose f g status.StoreFault rose is = rose
 store_rose f g (status.Unknown id) rose is = rose
 store_rose f g _ rose is = absurd (let e : false ≡ true = is in cc)
 
-of_store : (f g : Faults) (s : Status) → Counted f g s → FaultCounted f.store g.store (is_store_fault s ≡ true)
+of_store : (f g : FaultCounts) (s : Status) → EndCounts f g s → FaultCounted f.store g.store (is_store_fault s ≡ true)
 of_store f g s counted = record { later = counted.later.store; rose = λ is. store_rose f g s counted.rose is }
 
-pub record CommandCounts (f g : Faults) (s : Status) : Type 0 where
+pub record CommandCounts (f g : FaultCounts) (s : Status) : Type 0 where
   pub disk : FaultCounted f.disk g.disk (s ≡ status.DiskFault)
   pub store : FaultCounted f.store g.store (is_store_fault s ≡ true)
   pub names : FaultCounted f.names g.names (s ≡ status.NamesFault)
@@ -375,5 +374,5 @@ command_counts g told shown store c prepared taken AtEnd disk before after e bac
     let f = faults_with shown disk before in
     let h = faults_with shown back after in
     let ending = by_input g told shown store c prepared taken AtEnd disk before after e back input runs in
-    let counted : Counted f h s = record { later = ending.later; rose = as_ended f h e s written output ending.rose } in
+    let counted : EndCounts f h s = record { later = ending.later; rose = as_ended f h e s written output ending.rose } in
     record { disk = of_disk f h s counted; store = of_store f h s counted; names = of_names f h s counted; clock = of_clock f h s counted }

@@ -1,5 +1,5 @@
 -- How often the disk, the store, the source of names and the clock of a client have failed, and which count a status says has risen.
-use Rattle.std.proofs.Common.{◌≡◌, ◌⊎◌, ◌+◌, ◌^◌, ◌≤◌, ℕ, List, MatchOption, refl, sym, ap, subst, arith, inl, inr}
+use Rattle.std.proofs.Common.{◌≡◌, ◌≤◌, ℕ, List, MatchOption, refl, sym, ap, subst, arith, inl, inr}
 use Rattle.bcv_base.specs.Drawn.{NamesShown}
 use Rattle.bcv_base.specs.Faults.{Rose}
 use Rattle.bcv_base.specs.Moments.{ClockShown}
@@ -27,16 +27,16 @@ use Rattle.bcv_runner.specs.declared.ending.Ending.{Ending}
 
 -- ---- counts
 
-pub record Faults : Type 0 where
+pub record FaultCounts : Type 0 where
   pub disk : ℕ
   pub store : ℕ
   pub names : ℕ
   pub clock : ℕ
 
-abbrev pub faults_with : {D : Type 0} → (D → DiskShown) → D → Around → Faults
+abbrev pub faults_with : {D : Type 0} → (D → DiskShown) → D → Around → FaultCounts
 faults_with shown d x = record { disk = (shown d).faults; store = x.store.faults; names = x.names.faults; clock = x.clock.faults }
 
-abbrev pub faults_at : {D : Type 0} {g : _} → (D → DiskShown) → Point D g → Faults
+abbrev pub faults_at : {D : Type 0} {g : _} → (D → DiskShown) → Point D g → FaultCounts
 faults_at shown p = record {
   disk = (shown (log_disk p.client.ledger.log)).faults;
   store = p.store.faults;
@@ -45,14 +45,14 @@ faults_at shown p = record {
 }
 
 -- no count has fallen
-pub record Later (f g : Faults) : Type 0 where
+pub record NoFewer (f g : FaultCounts) : Type 0 where
   pub disk : f.disk ≤ g.disk
   pub store : f.store ≤ g.store
   pub names : f.names ≤ g.names
   pub clock : f.clock ≤ g.clock
 
 -- the count of what a status says has failed has risen
-abbrev pub RoseFor : Faults → Faults → Status → Type 0
+abbrev pub RoseFor : FaultCounts → FaultCounts → Status → Type 0
 RoseFor f g status.StoreFault = Rose f.store g.store
 RoseFor f g (status.Unknown id) = Rose f.store g.store
 RoseFor f g status.DiskFault = Rose f.disk g.disk
@@ -61,7 +61,7 @@ RoseFor f g status.ClockFault = Rose f.clock g.clock
 RoseFor f g s = Unit {0}
 
 -- so it is for a reply that ends a command with a status
-abbrev pub RoseBy : Faults → Faults → Reply → Type 0
+abbrev pub RoseBy : FaultCounts → FaultCounts → Reply → Type 0
 RoseBy f g r = MatchOption (stop_of r) (Unit {0}) (RoseFor f g)
 
 rose_later : (a b c : ℕ) → a ≤ b → Rose b c → Rose a c
@@ -76,10 +76,10 @@ at_most a b is = omega (arith, is)
 through : (a b c : ℕ) → a ≤ b → b ≤ c → a ≤ c
 through a b c one two = omega (arith, one, two)
 
-pub stay : (f : Faults) → Later f f
+pub stay : (f : FaultCounts) → NoFewer f f
 stay f = record { disk = at_most f.disk f.disk refl; store = at_most f.store f.store refl; names = at_most f.names f.names refl; clock = at_most f.clock f.clock refl }
 
-pub later_still : (f g h : Faults) → Later f g → Later g h → Later f h
+pub later_still : (f g h : FaultCounts) → NoFewer f g → NoFewer g h → NoFewer f h
 later_still f g h one two = record {
   disk = through f.disk g.disk h.disk one.disk two.disk;
   store = through f.store g.store h.store one.store two.store;
@@ -87,7 +87,7 @@ later_still f g h one two = record {
   clock = through f.clock g.clock h.clock one.clock two.clock;
 }
 
-pub since : (f g h : Faults) (s : Status) → Later f g → RoseFor g h s → RoseFor f h s
+pub since : (f g h : FaultCounts) (s : Status) → NoFewer f g → RoseFor g h s → RoseFor f h s
 since f g h status.StoreFault later rose = rose_later f.store g.store h.store later.store rose
 since f g h (status.Unknown id) later rose = rose_later f.store g.store h.store later.store rose
 since f g h status.DiskFault later rose = rose_later f.disk g.disk h.disk later.disk rose
@@ -95,7 +95,7 @@ since f g h status.NamesFault later rose = rose_later f.names g.names h.names la
 since f g h status.ClockFault later rose = rose_later f.clock g.clock h.clock later.clock rose
 since f g h _ later rose = tt
 
-pub until : (f g h : Faults) (s : Status) → RoseFor f g s → Later g h → RoseFor f h s
+pub until : (f g h : FaultCounts) (s : Status) → RoseFor f g s → NoFewer g h → RoseFor f h s
 until f g h status.StoreFault rose later = rose_before f.store g.store h.store rose later.store
 until f g h (status.Unknown id) rose later = rose_before f.store g.store h.store rose later.store
 until f g h status.DiskFault rose later = rose_before f.disk g.disk h.disk rose later.disk
@@ -116,7 +116,7 @@ by_reply before after n m c d i j reply.DiskFault causes disk = disk refl
 by_reply before after n m c d i j _ causes disk = tt
 
 module _ {D : Type 0} {g : Ghosts D} (told : DiskTold) (shown : D → DiskShown) (store : StoreTold) where
-  pub call_later : (a b : Point D g) (e : Exchange) → Exchanged told shown store a e b → Later (faults_at shown a) (faults_at shown b)
+  pub call_later : (a b : Point D g) (e : Exchange) → Exchanged told shown store a e b → NoFewer (faults_at shown a) (faults_at shown b)
   call_later a b e call = record { disk = call.disk.later; store = call.counted.store; names = call.counted.names; clock = call.counted.clock }
 
   pub call_rose : (a b : Point D g) (e : Exchange) → Exchanged told shown store a e b → RoseBy (faults_at shown a) (faults_at shown b) e.reply
@@ -140,7 +140,7 @@ may_draw told bytes old new may = elim may [
 ]
 
 pub up_later : {D : Type 0} (g : Ghosts D) (told : DiskTold) (shown : D → DiskShown) (disk : D) (x : Around) (names : NamesShown) (c : Client D g)
-    → ClientRises told shown disk x.names names (up.Ready c) → Later (faults_with shown disk x) (faults_with shown (log_disk c.ledger.log) (record x { names = names }))
+    → ClientRises told shown disk x.names names (up.Ready c) → NoFewer (faults_with shown disk x) (faults_with shown (log_disk c.ledger.log) (record x { names = names }))
 up_later g told shown disk x names c rises =
     let ends = rises.rises.ends in
     record {
@@ -168,7 +168,7 @@ down_rose told shown bytes before after disk back fault.NoMemory refused rose = 
 
 module _ {D : Type 0} (g : Ghosts D) (told : DiskTold) (shown : D → DiskShown) where
   pub down_later : (disk back : D) (before after : Around) (e : Ending) → StaysDown g told shown disk before after e back
-      → Later (faults_with shown disk before) (faults_with shown back after)
+      → NoFewer (faults_with shown disk before) (faults_with shown back after)
   down_later disk back before after e x = record {
     disk = x.up.rises.fails.later;
     store = at_most before.store.faults after.store.faults (ap (λ (s : StoreShown). s.faults) x.store);

@@ -84,10 +84,11 @@ Prepares (command.New db) r taken ended = ReadsNew db r taken ended
 Prepares (command.Commit db size) r taken ended = ReadsCommit db size r taken ended
 Prepares c r taken ended = (taken ≡ []) × MatchOption (operation_of c) ⊥ (λ o. r ≡ Ok o)
 
--- an input ends a command as a fault only where its count rose, and never as one of the output or the words
+-- an input ends a command as a fault only where its count rose, and never as one of the output, the disk or the words
 pub record EndsAsInput (before now : ℕ) (e : Ending) : Type 0 where
   pub read : status_of e ≡ status.ReadFault → Rose before now
   pub write : status_of e ≢ status.WriteFault
+  pub disk : status_of e ≢ status.DiskFault
   pub words : status_of e ≢ status.BadWords
 
 abbrev pub InputCauses : ℕ → ℕ → Result Operation Ending → Type 0
