@@ -39,7 +39,7 @@ class Transaction:
     """A session with a transaction, which reads its file piece by piece."""
 
     def __init__(self, reader, session):
-        self.reader, self.session, self.bytes = reader, session, b""
+        self.reader, self.session, self.bytes = reader, session, bytearray()
         reader.ask(poll(session))
         self.number, size, pages = struct.unpack(">QII", reader.ask(begin(session, b"shop")))
         self.length = size * pages
@@ -52,7 +52,7 @@ class Transaction:
 
     def ends(self):
         self.reader.ask(end(self.session))
-        return self.number, self.bytes
+        return self.number, bytes(self.bytes)
 
 
 def whole(number, bytes, work):
