@@ -55,13 +55,13 @@ class Transaction:
         return self.number, bytes(self.bytes)
 
 
-def whole(number, bytes, work):
-    """The bytes are that version's, and SQLite finds one round's rows in them."""
+def whole(number, found, work):
+    """What was found is that version's file, and SQLite finds one round's rows in them."""
     file = f"{work}/read.db"
     with open(file, "wb") as it:
-        it.write(bytes)
+        it.write(found)
     with open(f"{work}/versions/{number}", "rb") as it:
-        assert it.read() == bytes, f"version {number} reads other bytes"
+        assert it.read() == found, f"version {number} reads other bytes"
     with contextlib.closing(sqlite3.connect(file)) as base:
         assert base.execute("pragma integrity_check").fetchall() == [("ok",)]
         assert len(base.execute("select distinct round from item").fetchall()) == 1, number
@@ -82,8 +82,8 @@ def main(daemon, work, program):
             transaction = drawn.choice(transactions)
             if not transaction.goes_on(drawn.choice([1, 100, 4096, 65_537, 300_000])):
                 transactions.remove(transaction)
-                number, bytes = transaction.ends()
-                assert found.setdefault(number, bytes) == bytes, f"two readings of version {number}"
+                number, read_bytes = transaction.ends()
+                assert found.setdefault(number, read_bytes) == read_bytes, f"two readings of version {number}"
         last = Transaction(reader, 0)
         while last.goes_on(16_777_216):
             pass
@@ -96,8 +96,8 @@ def main(daemon, work, program):
             assert str(refused) == "no-txn", refused
     versions = {int(name) for name in os.listdir(f"{work}/versions")}
     assert len(versions) == ROUNDS + 1 and max(versions) in found, (versions, found.keys())
-    for number, bytes in found.items():
-        whole(number, bytes, work)
+    for number, read_bytes in found.items():
+        whole(number, read_bytes, work)
     assert len(found) > 3, f"only versions {sorted(found)} were read"
 
 
