@@ -1,6 +1,6 @@
 """The reader and the publisher of tests/daemon-reader."""
 import contextlib, os, random, shutil, sqlite3, struct, subprocess, sys, threading
-from reader import Daemon, Reader, Refused, begin, end, hold, poll, read
+from reader import Daemon, Ended, Reader, Refused, begin, end, hold, poll, read
 
 PAGE = 4096
 ROUNDS = 12
@@ -67,6 +67,24 @@ def whole(number, found, work):
         assert len(base.execute("select distinct round from item").fetchall()) == 1, number
 
 
+def little_memory(daemon, work, file):
+    """Where memory runs out for a read its connection ends without an answer, and the next one is served."""
+    ended = 0
+    for mebibytes in [8, 12, 20, 28, 40, 128]:
+        with Daemon(daemon, f"{work}/store", f"{work}/daemon", mebibytes << 20) as served:
+            for length in [16_777_216, 4096]:
+                reader = Reader(served.address)
+                reader.ask(poll())
+                reader.ask(begin(1, b"shop"))
+                try:
+                    assert reader.ask(read(1, 0, length)) == file[:length], f"{length} bytes in {mebibytes} MiB"
+                except Ended:
+                    assert length > 4096 and mebibytes < 128, f"no {length} bytes in {mebibytes} MiB"
+                    ended += 1
+                reader.close()
+    assert ended > 0, "memory never ran out"
+
+
 def main(daemon, work, program):
     done, drawn, found = threading.Event(), random.Random(5), {}
     with Daemon(daemon, f"{work}/store", f"{work}/daemon") as served:
@@ -99,9 +117,10 @@ def main(daemon, work, program):
     for number, read_bytes in found.items():
         whole(number, read_bytes, work)
     assert len(found) > 3, f"only versions {sorted(found)} were read"
+    little_memory(daemon, work, found[max(versions)])
 
 
 try:
     main(*sys.argv[1:])
-except (AssertionError, OSError, Refused) as fault:
+except (AssertionError, Ended, OSError, Refused) as fault:
     raise SystemExit(f"daemon-reader: {fault!r}") from fault
