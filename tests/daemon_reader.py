@@ -1,6 +1,6 @@
 """The reader and the publisher of tests/daemon-reader."""
 import contextlib, os, random, shutil, sqlite3, struct, subprocess, sys, threading
-from reader import Daemon, Reader, Refused, begin, end, hold, poll, read
+from reader import Daemon, Ended, Reader, Refused, begin, end, hold, poll, read
 
 PAGE = 4096
 ROUNDS = 12
@@ -39,7 +39,7 @@ class Transaction:
     """A session with a transaction, which reads its file piece by piece."""
 
     def __init__(self, reader, session):
-        self.reader, self.session, self.bytes = reader, session, b""
+        self.reader, self.session, self.bytes = reader, session, bytearray()
         reader.ask(poll(session))
         self.number, size, pages = struct.unpack(">QII", reader.ask(begin(session, b"shop")))
         self.length = size * pages
@@ -52,19 +52,37 @@ class Transaction:
 
     def ends(self):
         self.reader.ask(end(self.session))
-        return self.number, self.bytes
+        return self.number, bytes(self.bytes)
 
 
-def whole(number, bytes, work):
-    """The bytes are that version's, and SQLite finds one round's rows in them."""
+def whole(number, found, work):
+    """What was found is that version's file, and SQLite finds one round's rows in them."""
     file = f"{work}/read.db"
     with open(file, "wb") as it:
-        it.write(bytes)
+        it.write(found)
     with open(f"{work}/versions/{number}", "rb") as it:
-        assert it.read() == bytes, f"version {number} reads other bytes"
+        assert it.read() == found, f"version {number} reads other bytes"
     with contextlib.closing(sqlite3.connect(file)) as base:
         assert base.execute("pragma integrity_check").fetchall() == [("ok",)]
         assert len(base.execute("select distinct round from item").fetchall()) == 1, number
+
+
+def little_memory(daemon, work, file):
+    """Where memory runs out for a read its connection ends without an answer, and the next one is served."""
+    ended = 0
+    for mebibytes in [8, 12, 20, 28, 40, 128]:
+        with Daemon(daemon, f"{work}/store", f"{work}/daemon", mebibytes << 20) as served:
+            for length in [16_777_216, 4096]:
+                reader = Reader(served.address)
+                reader.ask(poll())
+                reader.ask(begin(1, b"shop"))
+                try:
+                    assert reader.ask(read(1, 0, length)) == file[:length], f"{length} bytes in {mebibytes} MiB"
+                except Ended:
+                    assert length > 4096 and mebibytes < 128, f"no {length} bytes in {mebibytes} MiB"
+                    ended += 1
+                reader.close()
+    assert ended > 0, "memory never ran out"
 
 
 def main(daemon, work, program):
@@ -82,8 +100,8 @@ def main(daemon, work, program):
             transaction = drawn.choice(transactions)
             if not transaction.goes_on(drawn.choice([1, 100, 4096, 65_537, 300_000])):
                 transactions.remove(transaction)
-                number, bytes = transaction.ends()
-                assert found.setdefault(number, bytes) == bytes, f"two readings of version {number}"
+                number, read_bytes = transaction.ends()
+                assert found.setdefault(number, read_bytes) == read_bytes, f"two readings of version {number}"
         last = Transaction(reader, 0)
         while last.goes_on(16_777_216):
             pass
@@ -96,12 +114,13 @@ def main(daemon, work, program):
             assert str(refused) == "no-txn", refused
     versions = {int(name) for name in os.listdir(f"{work}/versions")}
     assert len(versions) == ROUNDS + 1 and max(versions) in found, (versions, found.keys())
-    for number, bytes in found.items():
-        whole(number, bytes, work)
+    for number, read_bytes in found.items():
+        whole(number, read_bytes, work)
     assert len(found) > 3, f"only versions {sorted(found)} were read"
+    little_memory(daemon, work, found[max(versions)])
 
 
 try:
     main(*sys.argv[1:])
-except (AssertionError, OSError, Refused) as fault:
+except (AssertionError, Ended, OSError, Refused) as fault:
     raise SystemExit(f"daemon-reader: {fault!r}") from fault

@@ -1,5 +1,5 @@
 """A reader of bcvd, and the daemon that it reads from: for the tests and the benchmark of the daemon."""
-import os, socket, struct, subprocess, sys, time
+import os, resource, socket, struct, subprocess
 
 
 class Refused(Exception):
@@ -87,14 +87,15 @@ class Reader:
 
 
 class Daemon:
-    """A bcvd over a store's and a client's folder, at a free port."""
+    """A bcvd over a store's and a client's folder, at a free port, with so many bytes of memory at most."""
 
-    def __init__(self, program, store, client):
+    def __init__(self, program, store, client, most=resource.RLIM_INFINITY):
         with socket.socket() as free:
             free.bind(("127.0.0.1", 0))
             self.address = free.getsockname()
         words = [program, store, client, "%s:%d" % self.address]
-        self.process = subprocess.Popen(words, stdout=subprocess.PIPE)
+        limit = lambda: resource.setrlimit(resource.RLIMIT_AS, (most, most))
+        self.process = subprocess.Popen(words, stdout=subprocess.PIPE, preexec_fn=limit)
         said = self.process.stdout.readline()
         if said != b"bcvd ready\n":
             self.process.wait()
