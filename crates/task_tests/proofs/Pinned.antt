@@ -1,19 +1,25 @@
 -- The entry of a slot that gets one more pin, and what a hold leaves of it.
-use Rattle.std.proofs.Common.{◌≡◌, ℕ, suc, ◌+◌, ◌<◌, ◌≤◌, Bool, true, false, cond, nat_eq, List, [], ◌∷◌, map, Option, Some, None, Result, Ok, Err, option_map, IsSomeAnd, refl, ap, sym, subst, arith}
+use Rattle.std.proofs.Common.{◌≡◌, ℕ, ◌+◌, ◌≤◌, Bool, true, false, cond, nat_eq, List, [], ◌∷◌, map, Option, Some, None, Result, Ok, Err, option_map, IsSomeAnd, refl, sym, subst, arith}
 use Rattle.bcv_base.specs.declared.id.Id16.{Id16}
 use Rattle.bcv_cache.specs.Entry.{Entry, Blocks}
 use Rattle.bcv_cache.specs.Cache.{entry_in, counted_up, IsSlotOf}
 use Rattle.bcv_snapshot.specs.Opened.{Opened}
 use Rattle.bcv_snapshot.specs.TxnCalls.{TxnHolds}
 
+slot_up : (slot : ℕ) (e : Entry) → (counted_up slot e).slot ≡ e.slot
+slot_up slot e = elim (nat_eq slot e.slot) as (λ b. (cond b (record e { count = e.count + 1 }) e).slot ≡ e.slot) [ true ↦ refl | false ↦ refl ]
+
 -- the entry of each slot, with the pin where it is the pinned one
 entry_up : (slot : ℕ) (es : List Entry) (k : ℕ) → entry_in k (map (counted_up slot) es) ≡ option_map (counted_up slot) (entry_in k es)
 entry_up slot [] k = refl
-entry_up slot (e ∷ es) k = by (nat_eq slot e.slot) refl
+entry_up slot (e ∷ es) k =
+    subst (λ (n : ℕ). cond (nat_eq k n) (Some (counted_up slot e)) (entry_in k (map (counted_up slot) es)) ≡ option_map (counted_up slot) (cond (nat_eq k e.slot) (Some e) (entry_in k es)))
+    (sym (slot_up slot e)) (by (nat_eq k e.slot) (entry_up slot es k))
   where
-    by : (b : Bool) → nat_eq slot e.slot ≡ b → entry_in k (map (counted_up slot) (e ∷ es)) ≡ option_map (counted_up slot) (entry_in k (e ∷ es))
-    by true is = search rules
-    by false is = search rules
+    by : (b : Bool) → entry_in k (map (counted_up slot) es) ≡ option_map (counted_up slot) (entry_in k es)
+        → cond b (Some (counted_up slot e)) (entry_in k (map (counted_up slot) es)) ≡ option_map (counted_up slot) (cond b (Some e) (entry_in k es))
+    by true rest = refl
+    by false rest = rest
 
 -- a fact on a count of which one more knows no other
 few_up : (slot n : ℕ) (o : Option Entry) → IsSomeAnd o (λ e. e.count ≤ n) → IsSomeAnd (option_map (counted_up slot) o) (λ e. e.count ≤ n + 1)
