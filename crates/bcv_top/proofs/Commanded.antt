@@ -1,5 +1,5 @@
 -- What each command promises, by its words.
-use Rattle.std.proofs.Common.{◌≡◌, ◌≢◌, ◌↔◌, ℕ, List, [], Some, None, refl, sym, subst, ◌∙◌, arith}
+use Rattle.std.proofs.Common.{◌≡◌, ◌≢◌, ◌↔◌, ℕ, List, [], Some, None, refl, sym, subst, ◌∙◌}
 use Rattle.std.specs.Prelude.{Option}
 use Rattle.std.specs.Io.KnownBytes.{Appends, Consumes, IsAtEnd}
 use Rattle.std.proofs.KnownBytes.{Appends-nil, Consumes-nil}
@@ -8,7 +8,7 @@ use Rattle.bcv_commands.specs.declared.command.Command.{Command}
 use Rattle.bcv_commands.specs.declared.command.Command.TheVariants as command
 use Rattle.bcv_commands.specs.declared.status.Status.{Status}
 use Rattle.bcv_commands.specs.declared.status.Status.TheVariants as status
-use Rattle.bcv_runner.specs.Endings.{FaultCounted, StreamCauses}
+use Rattle.bcv_runner.specs.Endings.{StreamCauses}
 use Rattle.bcv_world.specs.declared.world.World.{World}
 use Rattle.bcv_top.specs.ClientCommands.{RunsAlone, UsesClient}
 use Rattle.bcv_top.specs.Commands.{RunsCommand}
@@ -69,22 +69,6 @@ nothing_causes s i o is = record { read = λ e. (let no_fault : status.BadWords 
 
 pub client_causes : (i j o p : ℕ) (s : Status) → StreamCauses i j o p s → HasCauses i j o p s
 client_causes i j o p s h = record { read = h.read; write = h.write }
-
--- ---- the disk
-
--- a count of faults stays where nothing failed
-pub stays_counted : (n : ℕ) (Failed : Type 0) → (Failed → ⊥) → FaultCounted n n Failed
-stays_counted n Failed none = record { later = omega arith; rose = λ f. absurd (none f) }
-
--- no script that is played meets a fault of the disk, and no words do
-pub replayed_disk : (s : Status) (w : Option World) (taken : List ℕ) (ended : Type 0) (written : List ℕ) → Replays s w taken ended written → s ≢ status.DiskFault
-replayed_disk s w taken ended written h e = let none : Replays status.DiskFault w taken ended written = subst (λ (x : Status). Replays x w taken ended written) e h in none
-
-pub generated_disk : (n : ℕ) (s : Status) (w : Option World) (written : List ℕ) → Generates n s w written → s ≢ status.DiskFault
-generated_disk n s w written h e = let none : Generates n status.DiskFault w written = subst (λ (x : Status). Generates n x w written) e h in none
-
-pub words_disk : (s : Status) → s ≡ status.BadWords → s ≢ status.DiskFault
-words_disk s is e = let no_fault : status.BadWords ≡ status.DiskFault = sym is ∙ e in cc
 
 -- ---- the client, and what no client touches
 

@@ -38,4 +38,5 @@ returns-in_default-command g c =
       alone = λ a. absurd (uses_alone _ k is uses a);
       client = λ q also used. rw (same_command _ k q is also) r;
       causes = client_causes _ _ _ _ _ c.run_command-ran.ensures.causes;
+      disk = c.run_command-ran.ensures.disk;
     }
