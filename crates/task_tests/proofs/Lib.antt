@@ -1,3 +1,1 @@
-pub mod Pinned
 pub mod Powers
-pub mod Uploads

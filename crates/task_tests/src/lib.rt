@@ -7,13 +7,7 @@
 #[cfg(test)]
 mod cleanup;
 #[cfg(test)]
-mod container;
-#[cfg(test)]
 mod poller;
-#[cfg(test)]
-mod rivals;
-#[cfg(test)]
-mod shared;
 #[cfg(test)]
 mod snapshot;
 #[cfg(test)]

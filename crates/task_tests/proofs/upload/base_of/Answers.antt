@@ -6,7 +6,7 @@ use Rattle.task_tests.proofs.upload.base_of.Goals as goal
 pub returns-clause-base : goal.returns-clause-base
 unfolding lib.Count.ones
 returns-clause-base c =
-    let blocks = c.of.ensures ∙ c.in_ok-blocks.ensures.items in
+    let blocks = c.of.ensures ∙ c.in-Ok.ensures.items in
     record {
       block = refl;
       entry = record {

@@ -1,7 +1,0 @@
-use Rattle.std.proofs.Common.{◌≡◌}
-use Rattle.bcv_upload.specs.State.{IsRunning}
-use Rattle.task_tests.proofs.Uploads.{Holds}
-use Rattle.task_tests.proofs.upload.prepare.Given as goal
-
-abbrev pub invariant-loop-count : goal.invariant-loop-count
-invariant-loop-count l = IsRunning l.upload × Holds l.pages l.upload × (l.cache.block ≡ 1024)
