@@ -348,12 +348,11 @@ fn generated(alloc: Global, number: u8) -> Result<Ran, AllocError> {
     words.push(format!(in alloc; "{number}")?)?;
     let mut input = MemSource::new(Vec::new(alloc), 1, Vec::new(alloc));
     let mut output = MemSink::new(alloc, Vec::new(alloc));
-    let rule = KeepRule::new(retention_passed);
-    let ran = bcv_top(alloc, &words, &rule, &mut input, &mut output);
+    let ended = run(alloc, &words, &mut input, &mut output);
     let mut text = Vec::new(alloc);
     text.extend_from_slice(output.bytes())?;
     Ok(Ran {
-        status: ran.status,
+        end: end_of(&ended.status),
         text,
     })
 }
@@ -376,7 +375,7 @@ fn generates(rt: HostRuntime) -> Result<(), Fail> {
         let once = generated(rt.alloc(), number)?;
         let again = generated(rt.alloc(), number)?;
         let text = once.text.as_slice();
-        assert_eq!(rt; once.status, Status::Done);
+        assert_eq!(rt; once.end, DONE);
         assert_eq!(rt; line_count(text), 5usize);
         assert!(rt; text.starts_with(b"events 2000\n"));
         assert_eq!(rt; again.text.as_slice(), text);
