@@ -9,6 +9,8 @@ mod cleanup;
 #[cfg(test)]
 mod poller;
 #[cfg(test)]
+mod shared;
+#[cfg(test)]
 mod snapshot;
 #[cfg(test)]
 mod upload;

@@ -15,11 +15,11 @@ use std::alloc::Global;
 use std::process::Abort;
 use std::test::*;
 
-const WHOLE: Id16 = Id16([1; 16]);
+pub(crate) const WHOLE: Id16 = Id16([1; 16]);
 
 const LONG: Id16 = Id16([2; 16]);
 
-const NEVER_PUT: Id16 = Id16([3; 16]);
+pub(crate) const NEVER_PUT: Id16 = Id16([3; 16]);
 
 // Fetches of blocks of four bytes: each answer but a full cache, and a block that is found at a failing store.
 #[test]
@@ -87,15 +87,15 @@ fn hold_and_free(
     txn.end(cache);
 }
 
-// The entry of a database of two pages of 512 bytes in one block.
-fn entry_of(alloc: Global, block: Id16) -> Result<DbEntry, Fail>
+/// The entry of a database of two pages of 512 bytes in one block.
+pub(crate) fn entry_of(alloc: Global, name: &[u8], block: Id16) -> Result<DbEntry, Fail>
     requires { IsId block }
     ensures rules { IfOk result (MeetsEntryRules 1024) }
     ensures page_size { IfOk result (λ e. e.page_size ≡ 512) }
     ensures pages { IfOk result (λ e. e.pages ≡ 2) }
     ensures blocks { IfOk result (λ e. e.blocks ≡ block ∷ []) }
 {
-    let Some(name) = DbName::read(b"a") else {
+    let Some(name) = DbName::read(name) else {
         return Err(Fail::from("a name"));
     };
     // The text of a name keeps the rules of names.
@@ -114,7 +114,7 @@ fn entry_of(alloc: Global, block: Id16) -> Result<DbEntry, Fail>
 fn a_block_is_held(rt: HostRuntime) -> Result<(), Fail> {
     let alloc = rt.alloc();
     let pages = PageSet::new(alloc, 512);
-    let entry = entry_of(alloc, WHOLE)?;
+    let entry = entry_of(alloc, b"a", WHOLE)?;
     let mut cache = BlockCache::new(alloc, 1, 1024)?;
     assert_eq!(rt; cache.find(&WHOLE), None);
     assert!(rt; cache.room());
@@ -151,14 +151,14 @@ fn add_commit(alloc: Global, pages: &mut PageSet, size: u32, writes: bool) -> Re
     Ok(())
 }
 
-// A base page, a page of zeros by a cut and growth, a local page, and no page.
+// A base page, a page of zeros by a cut, one beyond the base by growth, a local page, and no page.
 #[test]
 fn pages_after_a_cut_and_growth(rt: HostRuntime) -> Result<(), Fail> {
     let alloc = rt.alloc();
     let mut pages = PageSet::new(alloc, 512);
     add_commit(alloc, &mut pages, 1, false)?;
-    add_commit(alloc, &mut pages, 3, true)?;
-    let entry = entry_of(alloc, WHOLE)?;
+    add_commit(alloc, &mut pages, 4, true)?;
+    let entry = entry_of(alloc, b"a", WHOLE)?;
     let mut cache = BlockCache::new(alloc, 1, 1024)?;
     let base = TxnBase {
         entry,
@@ -168,11 +168,12 @@ fn pages_after_a_cut_and_growth(rt: HostRuntime) -> Result<(), Fail> {
         to: 2,
     };
     let txn = Txn::begin(alloc, base, &pages);
-    assert_eq!(rt; txn.size(), 3);
+    assert_eq!(rt; txn.size(), 4);
     assert_eq!(rt; txn.place(&pages, &mut cache, 1), Place::Absent(WHOLE));
     assert_eq!(rt; txn.place(&pages, &mut cache, 2), Place::Zeros);
-    assert_eq!(rt; txn.place(&pages, &mut cache, 3), Place::Local);
-    assert_eq!(rt; txn.place(&pages, &mut cache, 4), Place::BadPage);
+    assert_eq!(rt; txn.place(&pages, &mut cache, 3), Place::Zeros);
+    assert_eq!(rt; txn.place(&pages, &mut cache, 4), Place::Local);
+    assert_eq!(rt; txn.place(&pages, &mut cache, 5), Place::BadPage);
     assert!(rt; matches!(txn.look(&pages, &cache, 1), Look::NotHeld));
     txn.end(&mut cache);
     Ok(())
