@@ -4,7 +4,7 @@ use bcv_base::{CountNames, MemSink, MemSource, Outside, SetClock};
 use bcv_disk::MemDisk;
 use bcv_keeprule::{KeepRule, retention_passed};
 use bcv_memstore::MemStore;
-use bcv_top::{Ended, Status, bcv_top, replay_top};
+use bcv_top::{Ended, Replayed, Status, bcv_top, replay_top};
 use std::alloc::{AllocError, Global};
 use std::test::Fail;
 
@@ -119,7 +119,8 @@ fn applied(alloc: Global, script: &[u8], gives: &[u64]) -> Result<Option<u64>, A
     let mut input = MemSource::new(bytes, 65536, Vec::new(alloc));
     let mut output = MemSink::new(alloc, failing);
     let rule = KeepRule::new(retention_passed);
-    match replay_top(alloc, &rule, &mut input, &mut output).world {
+    let Replayed { status: _, world } = replay_top(alloc, &rule, &mut input, &mut output);
+    match world {
         Some(world) => Ok(Some(world.applied())),
         None => Ok(None),
     }
